@@ -1,0 +1,12 @@
+use Rattle.std.proofs.Common.{◌+◌, arith, ap, ◌∙◌}
+use Rattle.hb_lex.specs.Views.{reading}
+use Rattle.hb_lex.proofs.Grown.{word_grows}
+use Rattle.hb_lex.proofs.lexer.Source.after_word.Goals as goal
+
+pub returns-in-Alpha-clause-step : goal.returns-in-Alpha-clause-step
+returns-in-Alpha-clause-step c =
+    let a = c.args in
+    let s = a.self.now in
+    ap (λ o. reading s.bytes.now (a.at + 1) a.tokens.now.items o) c.fits.ensures.room
+    ∙ word_grows (record { file = s.file; longest = s.longest }) s.bytes.now a.tokens.now.items a.from a.at a.class
+    c.requires.within (omega arith) c.in-Alpha.is
