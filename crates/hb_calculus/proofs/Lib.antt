@@ -1,2 +1,16 @@
 pub mod Options
+pub mod Spines
+pub mod Same
+pub mod Rules
+pub mod Etas
 pub mod Heads
+pub mod Leftmost
+pub mod Sequences
+pub mod Stages
+pub mod Longer
+pub mod Moved
+pub mod Declared
+pub mod LongerInference
+pub mod WellScoped
+pub mod Levels
+pub mod Sound

@@ -8,19 +8,23 @@ use Rattle.hb_calculus.specs.Declarations.{Decl, Record, record_in}
 use Rattle.hb_calculus.specs.Telescopes.{maker, projections}
 use Rattle.hb_calculus.specs.Step.{Step}
 
--- the least equivalence that is kept by every term former and holds of steps and of the two eta rules
+-- the two eta rules, where the term itself is contracted
+pub data EtaContracts (E : List Decl) : Tree → Tree → Type 0 where
+  -- `fun x : a => t x` is t
+  eta : {a b t : Tree} → b ≡ app (lift t 1 0) (rel 0) → EtaContracts E (lam a b) t
+  -- a record's maker applied to any parameters and to all projections of t is t, if it has a field
+  record_eta :
+      {t u : Tree} (r : RecId) {R : Record} (qs : List Tree) → record_in (slice_get E r.0) ≡ Some R
+      → length qs ≡ length R.params → 0 < length R.fields
+      → u ≡ apply (maker r.0) (qs ++ projections r 0 (length R.fields) t) → EtaContracts E u t
+
+-- the least equivalence that is kept by every term former and holds of steps and of the eta rules
 pub data Convertible (E : List Decl) : Tree → Tree → Type 0 where
   same : {t : Tree} → Convertible E t t
   back : {t u : Tree} → Convertible E u t → Convertible E t u
   chain : {t u v : Tree} → Convertible E t u → Convertible E u v → Convertible E t v
   by_step : {t u : Tree} → Step E t u → Convertible E t u
-  -- `fun x : a => t x` is t
-  by_eta : {a b t : Tree} → b ≡ app (lift t 1 0) (rel 0) → Convertible E (lam a b) t
-  -- a record's maker applied to any parameters and to all projections of t is t, if it has a field
-  by_record_eta :
-      {t u : Tree} (r : RecId) {R : Record} (qs : List Tree) → record_in (slice_get E r.0) ≡ Some R
-      → length qs ≡ length R.params → 0 < length R.fields
-      → u ≡ apply (maker r.0) (qs ++ projections r 0 (length R.fields) t) → Convertible E u t
+  by_eta : {t u : Tree} → EtaContracts E t u → Convertible E t u
   of_pi : {a a' b b' : Tree} → Convertible E a a' → Convertible E b b' → Convertible E (pi a b) (pi a' b')
   of_lam : {a a' b b' : Tree} → Convertible E a a' → Convertible E b b' → Convertible E (lam a b) (lam a' b')
   of_app : {f f' a a' : Tree} → Convertible E f f' → Convertible E a a' → Convertible E (app f a) (app f' a')

@@ -10,3 +10,7 @@ pub mod Contraction
 pub mod Sequence
 pub mod Inference
 pub mod Laws
+pub mod EnvironmentLaws
+pub mod MovedLaws
+pub mod TypingLaws
+pub mod Examples

@@ -1,7 +1,7 @@
 -- What a term may name: variables of its context, and what an environment declares.
 use Rattle.std.specs.Prelude.{◌≡◌, ℕ, ◌+◌, ◌<◌, ◌≤◌, false, List, [], ◌∷◌, ◌++◌, length, Some, IsSome, slice_get}
 use Rattle.hb_tree.specs.Tree.{Tree, sort, rel, pi, lam, app, const, proj, hole, loose, has_hole}
-use Rattle.hb_calculus.specs.Declarations.{Decl, an_axiom, a_definition, a_record, field_types, record_in, Record}
+use Rattle.hb_calculus.specs.Declarations.{Decl, an_axiom, a_definition, a_record, field_types, terms_of, body_in, record_in, Record}
 use Rattle.hb_calculus.specs.Telescopes.{type_in}
 
 -- the term has no hole, and its variables are below its binders and the depth n
@@ -38,3 +38,11 @@ IsDeclared E (hole h) = Unit {0}
 abbrev pub AreDeclared : List Decl → List Tree → Type 0
 AreDeclared E [] = Unit {0}
 AreDeclared E (t ∷ ts) = IsDeclared E t × AreDeclared E ts
+
+-- the bodies of definitions have no variables from outside, as they have where the environment is well formed
+abbrev pub AreBodiesClosed : List Decl → Type 0
+AreBodiesClosed E = (n : ℕ) (b : Tree) → body_in (slice_get E n) ≡ Some b → loose b ≤ 0
+
+-- each term of a declaration names only what the environment declares
+abbrev pub IsDeclaredEnv : List Decl → Type 0
+IsDeclaredEnv E = (n : ℕ) (d : Decl) → slice_get E n ≡ Some d → AreDeclared E (terms_of d)
