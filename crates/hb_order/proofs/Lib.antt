@@ -1,0 +1,4 @@
+pub mod HeirLemmas
+pub mod AllowedLemmas
+pub mod GivingLemmas
+pub mod NeedLemmas

@@ -1,0 +1,4 @@
+pub mod Heirs
+pub mod Allowed
+pub mod Givings
+pub mod Needs
