@@ -1,0 +1,3 @@
+pub mod PlaceLemmas
+pub mod StructureLemmas
+pub mod FaultLemmas

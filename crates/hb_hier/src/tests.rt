@@ -1,0 +1,105 @@
+//! Small hierarchies that were worked out by hand.
+use crate::{FactoryId, Hier, HierRefused, Known, MixinId, StructId};
+use hb_base::{Count, NameId};
+
+/// Declares a mixin under a name that isn't known.
+fn mixin(h: &mut Hier, name: u16) -> Result<MixinId, HierRefused> {
+    if h.known(NameId(name)).is_some() {
+        return Err(HierRefused::UnknownFactory(NameId(name)));
+    }
+    h.add_mixin(NameId(name), &[], &[NameId(9)])
+}
+
+/// Declares a structure under a name that isn't known.
+fn structure(h: &mut Hier, name: u16, items: &[NameId]) -> Result<StructId, HierRefused> {
+    if h.known(NameId(name)).is_some() {
+        return Err(HierRefused::UnknownFactory(NameId(name)));
+    }
+    h.add_structure(NameId(name), items)
+}
+
+/// Mixins 0 to 3, and structures 10 {0}, 11 {1}, 12 {0, 1, 2} and 13 {0, 3}.
+fn small(h: &mut Hier) -> Result<(), HierRefused> {
+    for name in 0..4 {
+        mixin(h, name)?;
+    }
+    structure(h, 10, &[NameId(0)])?;
+    structure(h, 11, &[NameId(1)])?;
+    structure(h, 12, &[NameId(10), NameId(1), NameId(2)])?;
+    structure(h, 13, &[NameId(0), NameId(3)])?;
+    Ok(())
+}
+
+#[test]
+fn joins_are_as_worked_out(rt: HostRuntime) -> Result<(), HierRefused> {
+    let mut h = Hier::new(rt.alloc())?;
+    small(&mut h)?;
+    assert_eq!(rt; h.mixins(), 4);
+    assert_eq!(rt; h.structures(), 4);
+    for (a, b, want) in [
+        (0, 1, Some(2)),
+        (2, 3, None),
+        (0, 0, Some(0)),
+        (1, 2, Some(2)),
+        (3, 0, Some(3)),
+    ] {
+        if a < h.structures() && b < h.structures() {
+            assert_eq!(rt;
+                h.join_of(StructId(a), StructId(b)),
+                want.map(StructId),
+                "of {a} and {b}"
+            );
+        }
+    }
+    let refused = [
+        (
+            &[NameId(10), NameId(1), NameId(3)],
+            HierRefused::MissingJoin(StructId(0), StructId(1), StructId(2)),
+        ),
+        (
+            &[NameId(10), NameId(0), NameId(0)],
+            HierRefused::SameStructure(StructId(0)),
+        ),
+        (
+            &[NameId(0), NameId(2), NameId(2)],
+            HierRefused::AboveDeclared(StructId(2)),
+        ),
+        (
+            &[NameId(0), NameId(7), NameId(8)],
+            HierRefused::UnknownFactory(NameId(7)),
+        ),
+    ];
+    for (items, why) in refused {
+        assert_eq!(rt; structure(&mut h, 14, items), Err(why));
+    }
+    assert_eq!(rt;
+        structure(&mut h, 14, &[]),
+        Err(HierRefused::EmptyStructure)
+    );
+    Ok(())
+}
+
+#[test]
+fn the_1025th_mixin_is_refused(rt: HostRuntime) -> Result<(), HierRefused> {
+    let mut h = Hier::new(rt.alloc())?;
+    for name in 0..1024 {
+        mixin(&mut h, name)?;
+    }
+    assert_eq!(rt;
+        mixin(&mut h, 1024),
+        Err(HierRefused::TooMany(Count::Mixins))
+    );
+    assert_eq!(rt; h.known(NameId(1023)), Some(Known::Mixin(MixinId(1023))));
+    assert_eq!(rt; h.known(NameId(1024)), None);
+    assert_eq!(rt; h.name(Known::Mixin(MixinId(5))), Some(NameId(5)));
+    assert_eq!(rt; h.known_at(1023), Some(Known::Mixin(MixinId(1023))));
+    if h.known(NameId(2000)).is_none() {
+        h.add_factory(NameId(2000), &[NameId(3)], &[])?;
+    }
+    assert_eq!(rt; h.known(NameId(2000)), Some(Known::Factory(FactoryId(0))));
+    assert_eq!(rt;
+        structure(&mut h, 2001, &[NameId(2000)]),
+        Err(HierRefused::Unfinished(NameId(2000)))
+    );
+    Ok(())
+}
