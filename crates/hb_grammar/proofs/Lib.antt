@@ -1,0 +1,11 @@
+pub mod Holds
+pub mod Closing
+pub mod Marks
+pub mod Sound
+pub mod Rows
+pub mod Steps
+pub mod Leads
+pub mod Sentences
+pub mod Live
+pub mod Unique
+pub mod Way

@@ -1,0 +1,8 @@
+//! The grammar of sources: a relation between tokens and at most one list of sentences.
+#![tactic(auto)]
+
+mod laws;
+mod mark;
+
+pub use laws::one_reading;
+pub use mark::{Mark, Second};
