@@ -1,0 +1,4 @@
+pub mod FormLemmas
+pub mod ElaborateLemmas
+pub mod RunLemmas
+pub mod WellTyped

@@ -1,0 +1,32 @@
+//! How a run ended.
+
+/// The status that a run answers, and the program ends with.
+#[derive(Clone, Copy, Debug, PartialEq, Eq)]
+pub enum Status {
+    /// 0: the file was read to its end and every axiom accepted.
+    Done,
+    /// 1: the file or an axiom was refused; the last line says why.
+    Refused,
+    /// 2: the words are in no row of the usage text.
+    Usage,
+    /// 3: the depot failed.
+    SourceFault,
+    /// 4: the sink failed.
+    SinkFault,
+    /// 6: out of memory.
+    NoMemory,
+}
+
+impl Status {
+    /// The number of the status, from 0 to 6.
+    pub fn number(self) -> u8 {
+        match self {
+            Status::Done => 0,
+            Status::Refused => 1,
+            Status::Usage => 2,
+            Status::SourceFault => 3,
+            Status::SinkFault => 4,
+            Status::NoMemory => 6,
+        }
+    }
+}
