@@ -1,15 +1,9 @@
 -- Lemmas on specs/Elaborate.antt: arrows to the right, and names by their numbers.
 use Rattle.std.specs.Option.{option_map}
-use Rattle.std.proofs.Common.{is_some, append_assoc, IsTrue, ◌≡◌, ◌≤◌, ◌<◌, ◌+◌, ℕ, zero, suc, Bool, true, false, List, [], ◌∷◌, ◌++◌, length, take, drop, map, Option, None, Some, Result, Ok, Err, refl, ap, sym, ◌∙◌, arith, slice_get, cond}
+use Rattle.std.proofs.Common.{is_some, ◌≡◌, ℕ, zero, suc, Bool, true, false, List, [], ◌∷◌, Option, None, Some, refl, ap, sym, arith, slice_get}
 use Rattle.std.specs.Str.{bytes_eq}
 use Rattle.std.proofs.lemmas.Slice.Eq.{bytes_eq-Decides}
 use Rattle.hb_base.specs.Names.{is_named, NumbersAreUnique}
-use Rattle.std.proofs.lemmas.List.{map-append}
-use Rattle.hb_tree.specs.Tree.{Tree, pi}
-use Rattle.hb_term.specs.declared.term.Term.{Term}
-use Rattle.hb_term.specs.Meaning.{tree}
-use Rattle.hb_top.specs.declared.axiom.Part.{Part}
-use Rattle.hb_top.specs.Session.{State}
 use Rattle.hb_top.specs.Elaborate.{number_of}
 
 -- the number of a text that stands at a place, where no text stands twice

@@ -1,5 +1,5 @@
 -- Lemmas on specs/Run.antt: a run is one axiom longer.
-use Rattle.std.proofs.Common.{get_or, length, take, drop, drop-cons, add-one, suc, map, ◌<◌, ◌+◌, ◌≡◌, ℕ, List, [], ◌∷◌, ◌++◌, Option, None, Some, refl, ap, sym, ◌∙◌, append_assoc, append-nil}
+use Rattle.std.proofs.Common.{true, false, inr, slice_get, get_or, length, take, drop, drop-cons, add-one, suc, map, ◌<◌, ◌+◌, ◌≡◌, ℕ, List, [], ◌∷◌, ◌++◌, Option, None, Some, refl, ap, sym, ◌∙◌, append_assoc, append-nil}
 use Rattle.std.proofs.Math.Seq.{take-add}
 use Rattle.std.proofs.lemmas.List.{map-append, take-append-drop}
 use Rattle.hb_io.specs.Told.{grown}
@@ -7,7 +7,7 @@ use Rattle.hb_lex.specs.declared.error.LexRefused.TheVariants as lex
 use Rattle.hb_lex.specs.Text.{rules}
 use Rattle.hb_lex.specs.Places.{Refuses}
 use Rattle.hb_top.specs.declared.axiom.Axiom.{Axiom}
-use Rattle.hb_top.specs.declared.refusal.What.TheVariants.{Lex}
+use Rattle.hb_top.specs.declared.refusal.What.TheVariants.{NotYet, Lex}
 use Rattle.hb_top.specs.declared.refusal.Stop.{Stop}
 use Rattle.hb_top.specs.declared.refusal.Stop.TheVariants.{Refused}
 use Rattle.hb_top.specs.Ways.{sentence}
@@ -15,7 +15,7 @@ use Rattle.hb_top.specs.Form.{Sentence}
 use Rattle.hb_top.specs.Session.{State}
 use Rattle.hb_top.specs.Step.{Step}
 use Rattle.hb_top.specs.Report.{axiom_line, axiom_lines}
-use Rattle.hb_top.specs.Run.{at_byte, Malformed, Stopped, StopsIn, Run, no_more, one_more, RanTo, Took}
+use Rattle.hb_top.specs.Run.{begins_operator, at_byte, Malformed, Stopped, StopsIn, Run, no_more, one_more, RanTo, Took}
 
 grown-grown : (before : Option (List ℕ)) (xs ys : List ℕ) → grown (grown before xs) ys ≡ grown before (xs ++ ys)
 grown-grown None xs ys = refl
@@ -80,6 +80,10 @@ module _ (bytes : List ℕ) (s m s' : State) (axioms : List Axiom) (i : ℕ) (a 
     stopped = stopped;
   }
 
--- a byte that has no way on
-pub lex_malformed : (bytes : List ℕ) (at : ℕ) (stop : Stop) → Refuses (rules 0 255) bytes (lex.Lex at) → stop ≡ Refused (record { place = at_byte at; what = Lex }) → Malformed bytes stop
-lex_malformed bytes at stop refuses e = rw e (refuses, refl)
+-- a byte that has no way on, and one that begins an operator
+pub lex_malformed : (bytes : List ℕ) (at : ℕ) (stop : Stop) → Refuses (rules 0 255) bytes (lex.Lex at) → begins_operator (slice_get bytes at) ≡ false → stop ≡ Refused (record { place = at_byte at; what = Lex }) → Malformed bytes stop
+lex_malformed bytes at stop refuses other e = rw e (refuses, refl, other)
+
+pub operator_malformed : (bytes : List ℕ) (at : ℕ) (stop : Stop) → Refuses (rules 0 255) bytes (lex.Lex at) → begins_operator (slice_get bytes at) ≡ true → stop ≡ Refused (record { place = at_byte 0; what = NotYet }) → Malformed bytes stop
+operator_malformed bytes at stop refuses operator e =
+    rw e (inr (record { at = at; refuses = refuses; operator = operator }), refl)

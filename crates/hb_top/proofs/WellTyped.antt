@@ -1,10 +1,10 @@
 -- The environment of a session stays well formed.
-use Rattle.std.proofs.Common.{◌≡◌, ◌≤◌, ◌<◌, ◌+◌, ◌⊎◌, ℕ, zero, suc, false, List, [], ◌∷◌, ◌++◌, Option, None, Some, Result, Ok, Err, length, slice_get, refl, ap, sym, ◌∙◌, inl, inr, arith, lit≤}
+use Rattle.std.proofs.Common.{◌≡◌, ◌≤◌, ◌+◌, ℕ, zero, suc, false, List, [], ◌∷◌, ◌++◌, Option, None, Some, Result, Ok, Err, slice_get, refl, ap, ◌∙◌, inl, inr, arith, lit≤}
 use Rattle.hb_base.specs.declared.span.Span.{Span}
 use Rattle.hb_tree.specs.Tree.{Tree, sort, rel, pi, lam, app, const, proj, hole}
 use Rattle.hb_tree.specs.declared.leaves.Sort.{Sort}
 use Rattle.hb_tree.specs.declared.leaves.Sort.TheVariants.{Prop, Level}
-use Rattle.hb_calculus.specs.Declarations.{Decl, an_axiom, names, IsIn, Distinct}
+use Rattle.hb_calculus.specs.Declarations.{an_axiom, names, IsIn, Distinct}
 use Rattle.hb_calculus.specs.Telescopes.{type_in}
 use Rattle.hb_calculus.specs.Typing.{HasType, of_prop, of_level, of_constant, of_product, product_sort, WellFormed}
 use Rattle.hb_calculus.proofs.WellScoped.{well_formed-push}

@@ -1,6 +1,6 @@
 -- From the written type of an axiom to its term, or the first fault in the order of the text.
-use Rattle.std.specs.Prelude.{not, ◌==◌, ℕ, suc, Bool, false, List, [], ◌∷◌, option_map, nat_le, Option, None, Some, Result, Ok, Err, slice_get, cond, codes, nat_eq, drop, ◌||◌, ◌&&◌, nat_lt, length}
-use Rattle.std.specs.List.{starts_with, list_all}
+use Rattle.std.specs.Prelude.{◌==◌, ℕ, suc, Bool, false, List, [], ◌∷◌, option_map, nat_le, Option, None, Some, Result, Ok, Err, slice_get, cond, codes, nat_eq, ◌||◌, ◌&&◌}
+use Rattle.std.specs.List.{starts_with}
 use Rattle.std.specs.Str.{bytes_eq}
 use Rattle.std.specs.Str.Lossy.{utf8_lossy}
 use Rattle.hb_base.specs.declared.span.Span.{Span}

@@ -1,5 +1,5 @@
 -- The form of a source: axioms whose types are names, `Prop` and `Type` joined by arrows.
-use Rattle.std.specs.Prelude.{◌≡◌, ℕ, nat_le, List, [], ◌∷◌, length, Option, None, Some, cond}
+use Rattle.std.specs.Prelude.{◌≡◌, nat_le, List, [], ◌∷◌, length, Option, None, Some, cond}
 use Rattle.hb_base.specs.declared.span.Span.{Span}
 use Rattle.hb_top.specs.declared.lexeme.Lexeme.{Lexeme}
 use Rattle.hb_top.specs.declared.lexeme.Lexeme.TheVariants.{AxiomWord, Colon, Arrow, Stop, PropWord, TypeWord, Name, Other}

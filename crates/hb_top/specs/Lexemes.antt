@@ -1,5 +1,5 @@
 -- The tokens of a source as the form of axioms tells them apart.
-use Rattle.std.specs.Prelude.{ℕ, ◌-◌, ◌==◌, List, take, drop, map, cond, codes}
+use Rattle.std.specs.Prelude.{ℕ, ◌==◌, List, map, cond, codes}
 use Rattle.std.specs.List.{list_any}
 use Rattle.std.specs.Str.{bytes_eq}
 use Rattle.hb_base.specs.declared.span.Span.{Span}

@@ -1,5 +1,5 @@
 -- The lines of the report.
-use Rattle.std.specs.Prelude.{ℕ, ◌+◌, ◌≤◌, List, [], ◌∷◌, ◌++◌, Option, None, Some, length, take, codes, nat_le, nat_lt, if◌then◌else◌, slice_get, unwrap_or, true, false, cond}
+use Rattle.std.specs.Prelude.{ℕ, List, [], ◌∷◌, ◌++◌, Option, None, Some, length, take, codes, nat_le, nat_lt, if◌then◌else◌, slice_get, cond}
 use Rattle.std.specs.Fmt.{decimal}
 use Rattle.std.specs.Str.Lossy.{utf8_lossy}
 use Rattle.hb_base.specs.declared.count.Count.{Count}
@@ -7,7 +7,6 @@ use Rattle.hb_base.specs.declared.count.Count.TheVariants.{Names, Mixins, Factor
 use Rattle.hb_tree.specs.Tree.{Tree, sort, rel, pi, lam, app, const, proj, hole}
 use Rattle.hb_tree.specs.declared.leaves.Sort.{Sort}
 use Rattle.hb_tree.specs.declared.leaves.Sort.TheVariants.{Prop, Level}
-use Rattle.hb_tree.specs.declared.leaves.ConstId.{ConstId}
 use Rattle.hb_term.specs.Meaning.{tree}
 use Rattle.hb_top.specs.declared.refusal.Refusal.{Refusal}
 use Rattle.hb_top.specs.declared.refusal.What.{What}

@@ -1,13 +1,12 @@
 -- What a run does: it reads its file, takes the axioms one by one, and says how it ended.
-use Rattle.std.specs.Prelude.{◌≡◌, ◌≢◌, ◌<◌, ◌≤◌, ℕ, ◌+◌, ◌⊎◌, List, [], ◌∷◌, ◌++◌, Option, None, Some, Result, Ok, Err, length, take}
+use Rattle.std.specs.Prelude.{Bool, true, false, ◌==◌, ◌||◌, slice_get, ◌≡◌, ◌≢◌, ◌<◌, ◌≤◌, ℕ, ◌⊎◌, List, [], ◌∷◌, ◌++◌, Option, None, Some, Result, Ok, Err, length, take}
 use Rattle.hb_lex.specs.declared.token.Token.{Token}
 use Rattle.hb_lex.specs.declared.error.LexRefused.TheVariants as lex
 use Rattle.hb_lex.specs.Text.{HasTokens, rules}
 use Rattle.hb_lex.specs.Places.{Refuses}
 use Rattle.hb_base.specs.declared.span.Span.{Span}
 use Rattle.hb_io.specs.Causes.{Rose}
-use Rattle.hb_io.specs.Told.{Told, Untold, Missing, Holds, TellsOnly, grown, GrewByFront}
-use Rattle.hb_top.specs.declared.refusal.Refusal.{Refusal}
+use Rattle.hb_io.specs.Told.{Told, Missing, Holds, TellsOnly, grown, GrewByFront}
 use Rattle.hb_top.specs.declared.refusal.What.{What}
 use Rattle.hb_top.specs.declared.refusal.What.TheVariants.{NotYet, Utf8, Lex, TooMany, FileTooLong, Absent, UnknownName, Redeclared, ReservedName, NotType}
 use Rattle.hb_top.specs.declared.refusal.Stop.{Stop}
@@ -36,11 +35,24 @@ pub record HasOtherForm (bytes : List ℕ) : Type 0 where
   pub read : HasTokens (rules 0 255) bytes tokens
   pub no_form : (axioms : List Sentence) → ¬ AreSentences (lexemes_of bytes tokens) axioms
 
+-- the bytes that begin operators and quoted operators, tokens of a form that isn't built
+abbrev pub begins_operator : Option ℕ → Bool
+begins_operator None = false
+begins_operator (Some b) =
+    (b == 34) || ((b == 43) || ((b == 42) || ((b == 45) || ((b == 47) || ((b == 60) || ((b == 62) || ((b == 61) || ((b == 94) || ((b == 124) || ((b == 126) || ((b == 33) || (b == 37))))))))))))
+
+-- the byte without a way on begins an operator
+pub record HasOperator (bytes : List ℕ) : Type 0 where
+  pub at : ℕ
+  pub refuses : Refuses (rules 0 255) bytes (lex.Lex at)
+  pub operator : begins_operator (slice_get bytes at) ≡ true
+
 -- why the form of a source is refused
 abbrev pub IsFormCause : List ℕ → What → Span → Type 0
 IsFormCause bytes Utf8 place = Refuses (rules 0 255) bytes (lex.Utf8 place.from) × (place ≡ at_byte place.from)
-IsFormCause bytes Lex place = Refuses (rules 0 255) bytes (lex.Lex place.from) × (place ≡ at_byte place.from)
-IsFormCause bytes NotYet place = HasOtherForm bytes × (place ≡ at_byte 0)
+IsFormCause bytes Lex place =
+    Refuses (rules 0 255) bytes (lex.Lex place.from) × (place ≡ at_byte place.from) × (begins_operator (slice_get bytes place.from) ≡ false)
+IsFormCause bytes NotYet place = (HasOtherForm bytes ⊎ HasOperator bytes) × (place ≡ at_byte 0)
 IsFormCause bytes (TooMany c) place = ⊥
 IsFormCause bytes FileTooLong place = ⊥
 IsFormCause bytes Absent place = ⊥

@@ -1,6 +1,9 @@
 //! Working on the bytes of a source.
-ghost use Rattle.std.specs.Prelude.{◌≡◌, ◌≤◌, OnOk, IfOk, IfErr, Err, length, map};
+ghost use Rattle.std.specs.Prelude.{◌≡◌, ◌≤◌, OnOk, IfOk, IfErr, Err, length, map, slice_get};
 ghost use Rattle.hb_io.specs.Causes.{Rose};
+ghost use Rattle.hb_lex.specs.Text.{rules};
+ghost use Rattle.hb_lex.specs.Places.{Refuses};
+ghost use Rattle.hb_lex.specs.declared.error.LexRefused.TheVariants as lex;
 ghost use Rattle.hb_top.specs.Run as spec;
 ghost use Rattle.hb_top.specs.Run.{IsSource, Malformed, RanTo, Stopped, StopsIn, Took};
 ghost use Rattle.hb_top.specs.Views.{state};
@@ -41,13 +44,59 @@ pub(crate) fn axioms_of(alloc: Global, bytes: &[u8]) -> Result<Vec<Axiom>, Stop>
     let tokens = match tokens(alloc, bytes, 0, LONGEST) {
         Ok(tokens) => tokens,
         Err(LexRefused::Utf8 { at }) => return Err(refused(at_byte(at), What::Utf8)),
-        Err(LexRefused::Lex { at }) => return Err(refused(at_byte(at), What::Lex)),
+        Err(LexRefused::Lex { at }) => return Err(no_token(bytes, at)),
         Err(LexRefused::NoMemory) => return Err(Stop::NoMemory),
     };
     let lexemes = lexemes(alloc, bytes, tokens.as_slice())?;
     match axioms(alloc, lexemes.as_slice())? {
         Some(axioms) => Ok(axioms),
         None => Err(refused(at_byte(0), What::NotYet)),
+    }
+}
+
+/// The refusal of a byte without a way on: operators aren't built yet.
+fn no_token(bytes: &[u8], at: u32) -> Stop
+    requires { Refuses (rules 0 255) bytes.now (lex.Lex at) }
+    ensures { Malformed bytes.now result }
+{
+    if begins_operator(byte_at(bytes, at as usize)) {
+        refused(at_byte(0), What::NotYet)
+    } else {
+        refused(at_byte(at), What::Lex)
+    }
+}
+
+/// The byte at a place, if there is one.
+fn byte_at(bytes: &[u8], at: usize) -> Option<u8>
+    ensures { result ≡ slice_get bytes.now at }
+{
+    match bytes.get(at) {
+        Some(byte) => Some(*byte),
+        None => None,
+    }
+}
+
+/// Whether a byte begins an operator, or an operator in quotes.
+fn begins_operator(byte: Option<u8>) -> bool
+    ensures { result ≡ spec.begins_operator byte }
+{
+    match byte {
+        None => false,
+        Some(b) => {
+            b == b'"'
+                || b == b'+'
+                || b == b'*'
+                || b == b'-'
+                || b == b'/'
+                || b == b'<'
+                || b == b'>'
+                || b == b'='
+                || b == b'^'
+                || b == b'|'
+                || b == b'~'
+                || b == b'!'
+                || b == b'%'
+        }
     }
 }
 

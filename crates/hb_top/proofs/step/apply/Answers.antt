@@ -1,4 +1,4 @@
-use Rattle.std.proofs.Common.{◌≡◌, ◌∙◌, sym, ap, rules, None, is_some, false}
+use Rattle.std.proofs.Common.{◌≡◌, ◌∙◌, sym, ap, rules, is_some, false}
 use Rattle.hb_top.specs.Elaborate.{number_of}
 use Rattle.hb_top.proofs.ElaborateLemmas.{not_named, none_from}
 use Rattle.hb_top.proofs.step.apply.Goals as goal

@@ -1,4 +1,3 @@
-use Rattle.hb_top.specs.Views.{state}
 use Rattle.hb_top.proofs.WellTyped.{worked_well_formed}
 use Rattle.hb_top.proofs.top.run.Goals as goal
 
