@@ -14,3 +14,4 @@ pub mod LongerInference
 pub mod WellScoped
 pub mod Levels
 pub mod Sound
+pub mod Loose

@@ -1,0 +1,23 @@
+//! Weak head forms and normal forms, within a budget.
+#![tactic(auto)]
+
+mod budget;
+mod contract;
+mod error;
+mod eta;
+mod former;
+mod frames;
+mod head;
+mod normal;
+mod reduce;
+mod rule;
+mod settle;
+mod side;
+mod spine;
+mod walk;
+
+pub use error::ReduceRefused;
+pub use reduce::{nf, whnf};
+
+#[cfg(test)]
+mod tests;
