@@ -12,6 +12,9 @@ use Rattle.hb_grammar.proofs.Holds.{Held, he_begin, he_done, Holds, Then}
 use Rattle.std.proofs.Common.{All}
 use Rattle.std.proofs.lemmas.List.Elements.{All-nil, All-push}
 use Rattle.std.proofs.lemmas.List.{append_assoc, append-nil, map-append}
+use Rattle.std.proofs.Common.{◌+◌, ◌<◌, length, get_or, take as front_of, arith}
+use Rattle.std.proofs.lemmas.List.{take_more, length-take-le, length-map}
+use Rattle.hb_grammar.specs.Places.{SyntaxAt, at_token, at_end, DeepAt, deep, place_of}
 use Rattle.hb_grammar.specs.Places.{Seen, seen, token, tokens, Most, IsWithin, BeginsFile, Reads, Front}
 use Rattle.hb_grammar.specs.Run.{Outcome, outcome, behind_leaf_of, finish, run}
 use Rattle.hb_grammar.proofs.Leads.{Leads, stay, move, mark_at, sign_at}
@@ -222,3 +225,39 @@ came-short {ts = ts} {cs = cs} {s = s} c e ls ds a h =
     let q = c.runs [] ls ds (ap (λ x. run [] (Some begin) x) (append-nil ts ∙ sym a) ∙ file_run h ds refl) in
     let v : None ≡ Some (outcome q.0 ds) = sym e ∙ q.1 in
     absurd (cc)
+
+-- the places
+pub came-syntax : {most : Most} {all : List Seen} {cs : List Sentence} {s : State} (m : Mark) (w : Sign) (at : ℕ) (d : Seen)
+    → at < length all → get_or all at d ≡ seen m w → Came most (front_of at all) cs s → IsMoving s → step s m w ≡ None
+    → SyntaxAt most all at
+came-syntax {all = all} m w at d l g c p e =
+    at_token l (came-front c) (λ ls a.
+    came-stuck m w c p e ls (a ∙ (take_more all at d l ∙ ap (λ x. front_of at all ++ (x ∷ [])) g)))
+
+pub came-cut : {most : Most} {all : List Seen} {cs : List Sentence} {s : State} → Came most all cs s → finish cs s ≡ None
+    → SyntaxAt most all (length all)
+came-cut c e = at_end refl (came-front c) (came-short c e)
+
+-- with one more token the leaves still begin a file
+more-begins : {most : Most} {ts : List Seen} {cs : List Sentence} {s : State} (m : Mark) (w : Sign) (t : State)
+    → (c : Came most ts cs s) → step s m w ≡ Some t → BeginsFile (c.leaves ++ (read s m w ∷ []))
+more-begins {cs = cs} {s = s} m w t c e =
+    let l : Leaf = read s m w in
+    let h : (us : List Leaf) → Holds (c.rest (l ∷ us)) t us =
+    λ us. then_holds (c.rest (l ∷ us)) us (step s m w) e (step_holds s m w (c.rest (l ∷ us)) us (c.holds (l ∷ us))) in
+    let v = ends t (λ us. c.rest (l ∷ us)) h in
+    let f = file_more (c.file (l ∷ v.leaves)) (was_sentence (leads_hold v.leads (c.rest (l ∷ v.leaves)) (h v.leaves))) in
+    (v.leaves, cs ++ (v.sentence_of ∷ []), rw (append_assoc c.leaves (l ∷ []) v.leaves) f)
+
+pub came-deep : {most : Most} {all : List Seen} {cs : List Sentence} {s : State} (m : Mark) (w : Sign) (t : State) (at : ℕ) (d : Seen)
+    → at < length all → get_or all at d ≡ seen m w → Came most (front_of at all) cs s → step s m w ≡ Some t
+    → ¬ (IsWithin most (read s m w)) → DeepAt most all (place_of (read s m w) at)
+came-deep {all = all} {s = s} m w t at d l g c e over =
+    let k : length c.leaves ≡ at =
+    sym (length-map c.leaves token) ∙ (ap length c.are ∙ length-take-le at all (omega arith)) in
+    let a : tokens (c.leaves ++ (read s m w ∷ [])) ≡ front_of (at + 1) all =
+    map-append token c.leaves (read s m w ∷ [])
+    ∙ (ap (λ x. x ++ (token (read s m w) ∷ [])) c.are
+    ∙ (ap (λ x. front_of at all ++ (x ∷ [])) (read_seen s m w ∙ sym g) ∙ sym (take_more all at d l))) in
+    deep c.leaves (read s m w) (a ∙ ap (λ n. front_of (n + 1) all) (sym k)) (ap (λ n. place_of (read s m w) n) (sym k))
+    c.within over (more-begins m w t c e)

@@ -1,6 +1,6 @@
 -- What a list of tokens reads as, and where it stops being the beginning of a file: by the grammar
 -- alone.
-use Rattle.std.specs.Prelude.{◌≡◌, ℕ, ◌+◌, ◌<◌, ◌≤◌, List, [], ◌∷◌, ◌++◌, length, map, take, All}
+use Rattle.std.specs.Prelude.{◌≡◌, ℕ, ◌+◌, ◌-◌, ◌<◌, ◌≤◌, List, [], ◌∷◌, ◌++◌, length, map, take, All}
 use Rattle.hb_raw.specs.Sentence.{Sentence}
 use Rattle.hb_grammar.specs.declared.mark.Mark.{Mark}
 use Rattle.hb_grammar.specs.Leaf.{Sign, Leaf, leaf, late}
@@ -59,10 +59,15 @@ pub data SyntaxAt (most : Most) (ts : List Seen) (at : ℕ) : Type 0 where
   at_end : at ≡ length ts → Front most ts → ((ls : List Leaf) (cs : List Sentence) → tokens ls ≡ ts → ¬ (IsFile ls cs []))
       → SyntaxAt most ts at
 
--- The first token that passes a limit: the tokens up to it begin a file, those before it are
--- within the limits. An argument that is `late` began a token before.
+-- where an argument of the leaf at place n begins: one that is `late` began a token before
+abbrev pub place_of : Leaf → ℕ → ℕ
+place_of (leaf m w d k) n = n
+place_of (late m w d k) n = n - 1
+
+-- The first token that passes a limit: the tokens up to it begin a file, and those before it are
+-- within the limits.
 pub data DeepAt (most : Most) (ts : List Seen) (at : ℕ) : Type 0 where
-  deep : (ls : List Leaf) (l : Leaf) → tokens (ls ++ (l ∷ [])) ≡ take (length ls + 1) ts → at ≡ length ls
+  deep : (ls : List Leaf) (l : Leaf) → tokens (ls ++ (l ∷ [])) ≡ take (length ls + 1) ts → at ≡ place_of l (length ls)
       → All (IsWithin most) ls → ¬ (IsWithin most l) → BeginsFile (ls ++ (l ∷ [])) → DeepAt most ts at
 
 -- The law: a list of tokens has at most one list of sentences, with one nesting for each token.
