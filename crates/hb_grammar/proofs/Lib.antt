@@ -9,3 +9,4 @@ pub mod Sentences
 pub mod Live
 pub mod Unique
 pub mod Way
+pub mod Answer

@@ -1,6 +1,6 @@
 -- What a list of tokens reads as, and where it stops being the beginning of a file: by the grammar
 -- alone.
-use Rattle.std.specs.Prelude.{◌≡◌, ℕ, ◌+◌, ◌-◌, ◌<◌, ◌≤◌, List, [], ◌∷◌, ◌++◌, length, map, take, All}
+use Rattle.std.specs.Prelude.{◌≡◌, ℕ, ◌+◌, ◌-◌, ◌<◌, ◌≤◌, ◌⊎◌, List, [], ◌∷◌, ◌++◌, length, map, take, All}
 use Rattle.hb_raw.specs.Sentence.{Sentence}
 use Rattle.hb_grammar.specs.declared.mark.Mark.{Mark}
 use Rattle.hb_grammar.specs.Leaf.{Sign, Leaf, leaf, late}
@@ -74,3 +74,9 @@ pub data DeepAt (most : Most) (ts : List Seen) (at : ℕ) : Type 0 where
 abbrev pub OneReading : Type 0
 OneReading = (ls ms : List Leaf) (cs ds : List Sentence)
     → IsFile ls cs [] → IsFile ms ds [] → tokens ls ≡ tokens ms → (ls ≡ ms) × (cs ≡ ds)
+
+-- The law: a list of tokens reads as sentences within the limits, or has a first token without a
+-- way on, or a first one that passes a limit.
+abbrev pub EachHasAnswer : Type 0
+EachHasAnswer = (most : Most) (ts : List Seen)
+    → ((cs : List Sentence) × Reads most ts cs) ⊎ (((at : ℕ) × SyntaxAt most ts at) ⊎ ((at : ℕ) × DeepAt most ts at))

@@ -4,5 +4,5 @@
 mod laws;
 mod mark;
 
-pub use laws::one_reading;
+pub use laws::{each_has_answer, one_reading};
 pub use mark::{Mark, Second};
