@@ -9,6 +9,7 @@ ghost use Rattle.hb_convert.specs.Answers.{ConvertAnswer, BelowAnswer, IsYes};
 use crate::verdict::Verdict;
 use hb_base::Limits;
 use hb_env::Env;
+use hb_quick::looks_convertible;
 use hb_reduce::{ReduceRefused, nf};
 use hb_term::{Scoped, Sort, Term};
 use std::alloc::Global;
@@ -27,6 +28,10 @@ pub fn convertible(
     ensures same { tree a.now.term ≡ tree b.now.term → IsYes result }
 {
     if are_same(a, b) {
+        return Ok(Verdict::Yes);
+    }
+    let found = looks_convertible(alloc, env, a, b)?;
+    if found {
         return Ok(Verdict::Yes);
     }
     let x = nf(alloc, env, a, limits)?;
@@ -52,6 +57,10 @@ pub fn below(
     ensures same { tree a.now.term ≡ tree b.now.term → IsYes result }
 {
     if are_same(a, b) {
+        return Ok(Verdict::Yes);
+    }
+    let found = looks_convertible(alloc, env, a, b)?;
+    if found {
         return Ok(Verdict::Yes);
     }
     let x = nf(alloc, env, a, limits)?;

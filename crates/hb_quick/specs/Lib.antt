@@ -1,0 +1,1 @@
+-- what the crate's own functions promise each other
