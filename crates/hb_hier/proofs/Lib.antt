@@ -1,3 +1,8 @@
 pub mod PlaceLemmas
 pub mod StructureLemmas
 pub mod FaultLemmas
+pub mod GivenLemmas
+pub mod NeedLemmas
+pub mod StoreLemmas
+pub mod EndingLemmas
+pub mod UndoLemmas

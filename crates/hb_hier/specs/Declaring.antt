@@ -1,15 +1,16 @@
 -- What the adding calls add, and when they are refused.
-use Rattle.std.specs.Prelude.{◌≡◌, ℕ, ◌<◌, if◌then◌else◌, List, [], ◌∷◌, ◌++◌, length, Option, None, Some, slice_index_or}
+use Rattle.std.specs.Prelude.{◌≡◌, ℕ, ◌<◌, if◌then◌else◌, List, [], ◌∷◌, ◌++◌, length, Option, None, Some, slice_index_or, IsTrue}
 use Rattle.hb_base.specs.declared.count.Count.{Count}
 use Rattle.hb_base.specs.declared.count.Count.TheVariants.{Structures}
 use Rattle.hb_base.specs.declared.name_id.NameId.{NameId}
 use Rattle.hb_sets.specs.Set.{Set, empty}
+use Rattle.hb_order.specs.declared.ids.FactoryId.{FactoryId}
 use Rattle.hb_order.specs.Allowed.{IsAllowed, IsFirstSame, NoneSame, IsFirstAbove, NoneAbove, IsFirstMissing}
 use Rattle.hb_hier.specs.declared.error.HierRefused.{HierRefused}
-use Rattle.hb_hier.specs.declared.error.HierRefused.TheVariants.{UnknownFactory, Unfinished, EmptyStructure, SameStructure, AboveDeclared, MissingJoin, TooMany, NoMemory}
+use Rattle.hb_hier.specs.declared.error.HierRefused.TheVariants.{Finished, UnknownFactory, Unfinished, EmptyStructure, SameStructure, AboveDeclared, MissingJoin, TooMany, NoMemory}
 use Rattle.hb_hier.specs.declared.known.Known.{Known}
 use Rattle.hb_hier.specs.declared.known.Known.TheVariants.{Mixin, Factory, Structure}
-use Rattle.hb_hier.specs.Hierarchy.{Hierarchy, MOST, nameless, known_as, ended, sets, brought}
+use Rattle.hb_hier.specs.Hierarchy.{Hierarchy, MOST, nameless, known_as, name_of, ended, sets, brought}
 
 -- a mixin with these items and fields, after all others
 abbrev pub with_mixin : Hierarchy → NameId → List NameId → List NameId → Hierarchy
@@ -28,6 +29,16 @@ with_factory h name items fields = record h {
 -- a structure
 abbrev pub with_structure : Hierarchy → NameId → List NameId → Hierarchy
 with_structure h name items = record h { structures = h.structures ++ record { name = name; mixins = brought h items } ∷ [] }
+
+-- the end of a factory's section
+abbrev pub with_ending : Hierarchy → FactoryId → Set → Hierarchy
+with_ending h f provided = record h { endings = h.endings ++ record { factory = f; provided = provided } ∷ [] }
+
+-- why it isn't ended: it was
+abbrev pub EndRefusal : Hierarchy → FactoryId → HierRefused → Type 0
+EndRefusal h f (Finished n) = IsTrue (ended h.endings f.0) × (name_of h (Factory f) ≡ Some n)
+EndRefusal h f NoMemory = Unit {0}
+EndRefusal h f _ = ⊥
 
 -- why a name can't stand in a list: it is nothing, or a factory whose section isn't ended
 abbrev pub fault_as : Hierarchy → NameId → Option Known → Option HierRefused

@@ -1,5 +1,5 @@
 -- A hierarchy: what was declared, ended and given, each as a list in its order.
-use Rattle.std.specs.Prelude.{ℕ, ◌<◌, Bool, ◌==◌, List, [], length, map, fold, position, Option, None, Some, slice_get, slice_index_or}
+use Rattle.std.specs.Prelude.{false, ℕ, ◌<◌, Bool, ◌==◌, List, [], length, map, fold, position, Option, None, Some, slice_get, slice_index_or}
 use Rattle.std.specs.List.{list_any, position_or_len}
 use Rattle.std.specs.Option.{option_map}
 use Rattle.hb_base.specs.declared.name_id.NameId.{NameId}
@@ -72,6 +72,9 @@ ungrouped = record { name = record { 0 = 0 }; mixins = empty }
 
 abbrev pub unended : Ended
 unended = record { factory = record { 0 = 0 }; provided = empty }
+
+abbrev pub ungiven : Given
+ungiven = record { carrier = record { decl = 0; maker = false }; giving = record { binders = []; gives = empty } }
 
 -- the names of its fields; a structure has none
 abbrev pub fields_of : Hierarchy → Known → List NameId

@@ -3,7 +3,7 @@ ghost use Rattle.std.specs.Prelude.{◌≡◌, ℕ, ◌<◌, ◌≤◌, [], leng
 ghost use Rattle.hb_hier.specs.Hierarchy.{Hierarchy, MOST, nothing};
 
 use crate::known::Known;
-use crate::records::{Declaration, Ending, Instance, Structure};
+use crate::records::{Declaration, Ending, Instance, Structure, Tally};
 use hb_sets::MixSet;
 use hb_tree::ConstId;
 use std::alloc::{AllocError, Global};
@@ -20,7 +20,7 @@ pub struct Hier {
     pub(crate) endings: Vec<Ending>,
     pub(crate) structures: Vec<Structure>,
     pub(crate) givings: Vec<Instance>,
-    pub(crate) totals: Vec<MixSet>,
+    pub(crate) tallies: Vec<Tally>,
     pub(crate) carriers: Vec<ConstId>,
     pub(crate) nothing: MixSet,
 }
@@ -34,7 +34,7 @@ impl Model for Hier {
 
     ghost coded = { Prim.hlevel (codes, set_code) };
 
-    ghost use Rattle.hb_hier.specs.Keeping.{IsKept};
+    ghost use Rattle.hb_hier.specs.Kept.{IsKept};
 
     ghost view = { λ h.
         record {
@@ -62,7 +62,7 @@ impl Hier {
             endings: Vec::new(alloc),
             structures: Vec::new(alloc),
             givings: Vec::new(alloc),
-            totals: Vec::new(alloc),
+            tallies: Vec::new(alloc),
             carriers: Vec::new(alloc),
             nothing: MixSet::empty(),
         })

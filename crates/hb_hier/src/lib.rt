@@ -3,16 +3,22 @@
 #![tactic(auto)]
 
 mod declare;
+mod ending;
 mod error;
+mod give;
+mod given;
 mod hier;
 mod join;
 mod known;
 mod look;
+mod need;
 mod records;
 mod sets;
+mod store;
 mod structure;
 #[cfg(test)]
 mod tests;
+mod undo;
 
 pub use error::HierRefused;
 pub use hb_order::{FactoryId, MixinId, StructId};

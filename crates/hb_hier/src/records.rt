@@ -83,3 +83,10 @@ impl Model for Instance {
     ghost view = { λ g.
         record { carrier = g.carrier; giving = record { binders = g.binders.items; gives = g.gives } } };
 }
+
+/// What stands after an instance: what its carrier was given, and how many carriers there are.
+#[derive(Drop)]
+pub(crate) struct Tally {
+    pub(crate) given: MixSet,
+    pub(crate) carriers: usize,
+}

@@ -1,6 +1,8 @@
 //! Small hierarchies that were worked out by hand.
 use crate::{FactoryId, Hier, HierRefused, Known, MixinId, StructId};
 use hb_base::{Count, NameId};
+use hb_sets::MixSet;
+use hb_tree::ConstId;
 
 /// Declares a mixin under a name that isn't known.
 fn mixin(h: &mut Hier, name: u16) -> Result<MixinId, HierRefused> {
@@ -101,5 +103,67 @@ fn the_1025th_mixin_is_refused(rt: HostRuntime) -> Result<(), HierRefused> {
         structure(&mut h, 2001, &[NameId(2000)]),
         Err(HierRefused::Unfinished(NameId(2000)))
     );
+    Ok(())
+}
+
+/// Gives the name at the carrier, with one binder.
+fn give_one(h: &mut Hier, carrier: ConstId, s: StructId, name: u16) -> Result<MixSet, HierRefused> {
+    let alike = match h.binders(carrier) {
+        Some(n) => n == 1,
+        None => true,
+    };
+    if s.0 >= h.structures() || !alike || h.mark().givings == u32::MAX {
+        return Err(HierRefused::UnknownFactory(NameId(name)));
+    }
+    h.give(carrier, &[Some(s)], NameId(name))
+}
+
+#[test]
+fn needs_are_as_worked_out(rt: HostRuntime) -> Result<(), HierRefused> {
+    let mut h = Hier::new(rt.alloc())?;
+    let k = ConstId {
+        decl: 7,
+        maker: false,
+    };
+    for name in 0..4 {
+        mixin(&mut h, name)?;
+    }
+    structure(&mut h, 10, &[NameId(0)])?;
+    structure(&mut h, 11, &[NameId(1)])?;
+    let both = MixSet::empty().with(2).with(3);
+    let start = h.mark();
+    assert!(rt; give_one(&mut h, k, StructId(0), 2)?.same(&MixSet::empty().with(2)));
+    assert!(rt; give_one(&mut h, k, StructId(1), 3)?.same(&MixSet::empty().with(3)));
+    assert!(rt; give_one(&mut h, k, StructId(1), 3)?.same(&MixSet::empty()));
+    assert!(rt; h.given(k).same(&both));
+    assert_eq!(rt; h.carriers().len(), 1);
+    assert!(rt; !h.takes(k, &both));
+    structure(&mut h, 12, &[NameId(0), NameId(1)])?;
+    assert!(rt; h.takes(k, &both));
+    if h.takes(k, &both) && h.binders(k) == Some(1) {
+        assert_eq!(rt; h.need(k, &both, 0), Some(StructId(2)));
+    }
+    if h.known(NameId(4)).is_none() {
+        h.add_mixin(NameId(4), &[NameId(3)], &[])?;
+    }
+    assert!(rt; give_one(&mut h, k, StructId(0), 4).is_err());
+    if h.known(NameId(20)).is_none() {
+        let f = h.add_factory(NameId(20), &[], &[])?;
+        h.finish_factory(f, &both.with(4))?;
+        assert_eq!(rt;
+            h.finish_factory(f, &both),
+            Err(HierRefused::Finished(NameId(20)))
+        );
+    }
+    match give_one(&mut h, k, StructId(0), 20) {
+        Ok(_) => assert!(rt; false),
+        Err(why) => assert_eq!(rt; why, HierRefused::Unmet(MixinId(4), MixinId(3))),
+    }
+    match give_one(&mut h, k, StructId(0), 4) {
+        Ok(_) => assert!(rt; false),
+        Err(why) => assert_eq!(rt; why, HierRefused::MissingMixin(MixinId(3))),
+    }
+    assert_eq!(rt; h.condition(k, MixinId(3)).len(), 1);
+    assert_eq!(rt; start.givings, 0);
     Ok(())
 }

@@ -7,7 +7,7 @@ use Rattle.std.proofs.lemmas.Nat.{and_le_l}
 use Rattle.hb_sets.specs.Words.{IsOutside, OutsideNone, IsFirstBit}
 
 -- a bit of `a & !b`
-bit_at-outside : (a b k : ℕ) → b < 2 ^ 64 → k < 64 → bit_at (bit_and a (bit_not w64 b)) k ≡ min (bit_at a k) (1 - bit_at b k)
+pub bit_at-outside : (a b k : ℕ) → b < 2 ^ 64 → k < 64 → bit_at (bit_and a (bit_not w64 b)) k ≡ min (bit_at a k) (1 - bit_at b k)
 bit_at-outside a b k fits within = bit_at_and a (bit_not w64 b) k ∙ ap (min (bit_at a k)) (bit_at_not w64 b k fits within)
 
 pub outside-set : (a b k : ℕ) → b < 2 ^ 64 → k < 64 → bit_at (bit_and a (bit_not w64 b)) k ≡ 1 → IsOutside a b k

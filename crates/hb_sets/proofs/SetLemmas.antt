@@ -1,10 +1,10 @@
 -- Inclusion and equality of finite sets of numbers, by their members.
-use Rattle.std.proofs.Common.{Option, None, Some, is_some, IsNone, IfSome, not, ◌↔◌, subst, true≢false, ◌≡◌, ℕ, Bool, true, false, ◌||◌, IsTrue, sym, ◌∙◌, ap, refl}
+use Rattle.std.proofs.Common.{Option, None, Some, is_some, IsNone, IfSome, not, ◌↔◌, subst, true≢false, ◌≡◌, ℕ, Bool, true, false, ◌||◌, ◌&&◌, IsTrue, sym, ◌∙◌, ap, refl}
 use Rattle.std.specs.Prelude.{nat_eq}
 use Rattle.std.specs.Ordering.{nat_cmp}
 use Rattle.std.specs.Cmp.{nat_cmp_total, unsigned_tied}
-use Rattle.std.specs.FinSet.{nat_cmp-IsAntisymmetric, same_set, contains-empty, contains-insert, contains-union, is_subset-contains, contains-is_subset}
-use Rattle.hb_sets.specs.Set.{Set, In, Inside, IsFirstOutside, empty, contains, insert, union, is_subset}
+use Rattle.std.specs.FinSet.{nat_cmp-IsAntisymmetric, same_set, contains-empty, contains-insert, contains-union, contains-difference, is_subset-contains, contains-is_subset}
+use Rattle.hb_sets.specs.Set.{Set, In, Inside, IsFirstOutside, empty, contains, insert, union, difference, is_subset}
 
 -- two sets with the same members are equal
 pub same_members : (s t : Set) → ((q : ℕ) → contains s q ≡ contains t q) → s ≡ t
@@ -16,6 +16,9 @@ contains-with s k q = contains-insert nat_cmp_total s k q ∙ ap (λ b. b || con
 
 pub contains-either : (s t : Set) (q : ℕ) → contains (union s t) q ≡ (contains s q || contains t q)
 contains-either s t q = contains-union nat_cmp_total s t q
+
+pub contains-without : (s t : Set) (q : ℕ) → contains (difference s t) q ≡ (contains s q && not (contains t q))
+contains-without s t q = contains-difference nat_cmp_total s t q
 
 pub contains-none : (q : ℕ) → contains {R = nat_cmp} empty q ≡ false
 contains-none q = contains-empty nat_cmp q

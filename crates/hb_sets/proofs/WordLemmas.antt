@@ -1,13 +1,13 @@
 -- The members that 16 words stand for.
-use Rattle.std.proofs.Common.{◌≡◌, ℕ, zero, suc, ◌+◌, ◌*◌, ◌<◌, ◌≤◌, ◌^◌, ◌/◌, ◌%◌, Bool, true, false, cond, ◌&&◌, ◌||◌, List, length, refl, sym, ap, ◌∙◌, arith, IsTrue, nat_lt, nat_eq, slice_index, slice_set, replicate, bit_or, bit_and, max, get_or-set_same, get_or-set_other, ◌⊎◌, inl, inr, subst}
+use Rattle.std.proofs.Common.{◌≡◌, ℕ, zero, suc, ◌+◌, ◌*◌, ◌<◌, ◌≤◌, ◌^◌, ◌/◌, ◌%◌, Bool, true, false, cond, ◌&&◌, ◌-◌, not, min, ◌||◌, List, length, refl, sym, ap, ◌∙◌, arith, IsTrue, nat_lt, nat_eq, slice_index, slice_set, replicate, bit_or, bit_and, max, get_or-set_same, get_or-set_other, ◌⊎◌, inl, inr, subst}
 use Rattle.std.specs.Int.{bit_at, w64}
 use Rattle.std.proofs.lemmas.List.{get_or-replicate, get_or_past}
 use Rattle.std.proofs.lemmas.Bool.{cases_lt, cases_eq}
 use Rattle.std.proofs.lemmas.Bool.Decides.{nat_tests}
 use Rattle.std.proofs.lemmas.Nat.Bits.{bit_at-lt, bit_at_or, bit_at-zero, shr_and_one, bit_at_set_same, bit_at_set_other}
-use Rattle.hb_sets.specs.Set.{Set, In, Inside, IsFirstOutside, empty, contains, insert, union}
-use Rattle.hb_sets.specs.Words.{has_bit, members_below, members, IsOutside, OutsideNone, IsFirstBit}
-use Rattle.hb_sets.proofs.SetLemmas.{same_members, contains-with, contains-either, contains-none, Inside-of_members}
+use Rattle.hb_sets.specs.Set.{Set, In, Inside, IsFirstOutside, empty, contains, insert, union, difference}
+use Rattle.hb_sets.specs.Words.{has_bit, members_below, members, IsWordOutside, IsOutside, OutsideNone, IsFirstBit}
+use Rattle.hb_sets.proofs.SetLemmas.{same_members, contains-with, contains-either, contains-without, contains-none, Inside-of_members}
 
 below_step : (q n : ℕ) (b c : Bool) → (q ≡ n → c ≡ b) → cond b (nat_eq q n || (nat_lt q n && c)) (nat_lt q n && c) ≡ (nat_lt q (suc n) && c)
 below_step q n b c same = grind (arith, nat_tests)
@@ -173,3 +173,18 @@ members-with_at words n i at long small =
 pub first_outside_at : (v w : List ℕ) (i b j : ℕ) → j ≡ i → i < 16 → ((k : ℕ) → k < i → OutsideNone (slice_index v k) (slice_index w k)) → IsFirstBit (slice_index v j) (slice_index w j) b → IsFirstOutside (members v) (members w) (i * 64 + b)
 first_outside_at v w i b j at within none bit =
     first_outside_words v w i b within none (subst (λ (k : ℕ). IsFirstBit (slice_index v k) (slice_index w k) b) at bit)
+
+-- words cut bit by bit have the members that the other set hasn't
+without_step : (q bit a b : ℕ) (m s t : Bool) → s ≡ (nat_lt q 1024 && nat_eq a 1) → t ≡ (nat_lt q 1024 && nat_eq b 1) → m ≡ (nat_lt q 1024 && nat_eq bit 1) → a < 2 → b < 2 → bit ≡ min a (1 - b) → m ≡ (s && not t)
+without_step q bit a b m s t is_s is_t is small_a small_b e = grind (arith, nat_tests)
+
+pub members-cut : (v w cut : List ℕ) → ((k : ℕ) → k < 16 → IsWordOutside (slice_index v k) (slice_index w k) (slice_index cut k)) → members cut ≡ difference (members v) (members w)
+members-cut v w cut each = same_members _ _ (λ q. at q (cases_lt q 1024) ∙ sym (contains-without (members v) (members w) q))
+  where
+    beyond : (q bit a b : ℕ) (m s t : Bool) → s ≡ (nat_lt q 1024 && nat_eq a 1) → t ≡ (nat_lt q 1024 && nat_eq b 1) → m ≡ (nat_lt q 1024 && nat_eq bit 1) → 1024 ≤ q → m ≡ (s && not t)
+    beyond q bit a b m s t is_s is_t is far = grind (arith, nat_tests)
+
+    at : (q : ℕ) → (q < 1024) ⊎ (1024 ≤ q) → contains (members cut) q ≡ (contains (members v) q && not (contains (members w) q))
+    at q (inl small) =
+        without_step q (bit_of cut q) (bit_of v q) (bit_of w q) _ _ _ (contains-members v q) (contains-members w q) (contains-members cut q) (bit_at-lt _ _) (bit_at-lt _ _) (each (q / 64) (omega arith) (q % 64) (omega arith))
+    at q (inr far) = beyond q _ _ _ _ _ _ (contains-members v q) (contains-members w q) (contains-members cut q) far

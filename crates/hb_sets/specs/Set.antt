@@ -3,7 +3,7 @@ use Rattle.std.specs.Prelude.{ℕ, ◌<◌, IsTrue}
 use Rattle.std.specs.Ordering.{nat_cmp}
 use Rattle.std.specs.Coded.{Coded, coded_ℕ}
 use Rattle.std.specs.FinSet.{FinSet, code}
-pub use Rattle.std.specs.FinSet.{empty, contains, insert, union, is_subset, items}
+pub use Rattle.std.specs.FinSet.{empty, contains, insert, union, difference, is_subset, items}
 
 -- a finite set of numbers
 abbrev pub Set : Type 0
@@ -25,3 +25,7 @@ pub record IsFirstOutside (s t : Set) (n : ℕ) : Type 0 where
   pub inside : In s n
   pub outside : ¬ (In t n)
   pub least : (k : ℕ) → k < n → In s k → In t k
+
+-- each member of s is below n
+abbrev pub AllBelow : Set → ℕ → Type 0
+AllBelow s n = (q : ℕ) → In s q → q < n

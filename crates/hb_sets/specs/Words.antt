@@ -1,5 +1,5 @@
 -- A set of numbers below 1,024 in 16 words of 64 bits: n is bit n % 64 of word n / 64.
-use Rattle.std.specs.Prelude.{◌≡◌, ℕ, zero, suc, ◌<◌, ◌/◌, ◌%◌, ◌==◌, Bool, cond, List, slice_index}
+use Rattle.std.specs.Prelude.{◌≡◌, ℕ, zero, suc, ◌<◌, ◌/◌, ◌%◌, ◌==◌, ◌-◌, min, Bool, cond, List, slice_index}
 use Rattle.std.specs.Int.{bit_at}
 use Rattle.hb_sets.specs.Set.{Set, empty, insert}
 
@@ -30,3 +30,7 @@ pub record IsFirstBit (a b n : ℕ) : Type 0 where
   pub within : n < 64
   pub first : IsOutside a b n
   pub lowest : (k : ℕ) → k < n → ¬ (IsOutside a b k)
+
+-- r has the bits that are set in a and not in b
+abbrev pub IsWordOutside : ℕ → ℕ → ℕ → Type 0
+IsWordOutside a b r = (k : ℕ) → k < 64 → bit_at r k ≡ min (bit_at a k) (1 - bit_at b k)

@@ -1,7 +1,7 @@
 //! A set of numbers below 1,024, a bit for each.
 ghost use Rattle.std.specs.Prelude.{◌≡◌, ℕ, ◌<◌, ◌↔◌, IsTrue, IfSome, IsNone};
-ghost use Rattle.hb_sets.specs.Set.{Set, In, Inside, IsFirstOutside, contains, insert, union, is_subset, empty};
-ghost use Rattle.hb_sets.specs.Words.{members, IsFirstBit, OutsideNone};
+ghost use Rattle.hb_sets.specs.Set.{Set, In, Inside, IsFirstOutside, AllBelow, contains, insert, union, difference, is_subset, empty};
+ghost use Rattle.hb_sets.specs.Words.{members, IsWordOutside, IsFirstBit, OutsideNone};
 
 use std::marker::Model;
 
@@ -59,6 +59,17 @@ impl MixSet {
         MixSet { words }
     }
 
+    /// The members that `other` hasn't.
+    pub fn minus(&self, other: &MixSet) -> MixSet
+        ensures { result ≡ difference self.now other.now }
+    {
+        let mut words = self.words;
+        for i in 0..16 {
+            words[i] = word_outside(words[i], other.words[i]);
+        }
+        MixSet { words }
+    }
+
     /// The least member that `other` hasn't. None exactly where there is no such member.
     pub fn first_outside(&self, other: &MixSet) -> Option<u16>
         ensures none { IsNone result → Inside self.now other.now }
@@ -94,6 +105,20 @@ impl MixSet {
     {
         MixSet { words: self.words }
     }
+
+    /// The law: each member is below 1,024.
+    pub fn members_are_small(&self)
+        ensures { AllBelow self.now 1024 }
+    {
+        let _ = &self.words;
+    }
+}
+
+/// The bits that are set in `a` and not in `b`.
+fn word_outside(a: u64, b: u64) -> u64
+    ensures { IsWordOutside a b result }
+{
+    a & !b
 }
 
 /// The place of the lowest bit that is set in `a` and not in `b`.

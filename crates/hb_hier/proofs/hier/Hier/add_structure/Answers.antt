@@ -3,7 +3,7 @@ use Rattle.hb_order.specs.Allowed.{IsAllowed}
 use Rattle.hb_hier.specs.Hierarchy.{Hierarchy, MOST, sets}
 use Rattle.std.proofs.lemmas.Result.{err_from_is_err_and}
 use Rattle.hb_hier.proofs.FaultLemmas.{structure-fault}
-use Rattle.hb_hier.proofs.StructureLemmas.{all-push, few-push}
+use Rattle.hb_hier.proofs.StructureLemmas.{all-push, few-push, asked-wider}
 use Rattle.hb_hier.proofs.hier.Hier.add_structure.Goals as goal
 
 pub returns-in_err-check_items-clause-refused : goal.returns-in_err-check_items-clause-refused
@@ -17,7 +17,12 @@ invariant_of-self-2 c =
     record {
       few_mixins = old.few_mixins;
       few_factories = old.few_factories;
+      ended_once = old.ended_once;
       few_structures = few-push c.self.inside.structures.items _ _ c.in_ok-push.ensures.items (subst (λ (h : Hierarchy). length h.structures < MOST) (sym c.self.view_is) c.in_ok-check_set.ensures.room);
       allowed = all-push c.self.inside.structures.items _ _ c.in_ok-push.ensures.items old.allowed (subst (λ (h : Hierarchy). IsAllowed (sets h) c.brought-mixins.result) (sym c.self.view_is) c.in_ok-check_set.ensures.allowed);
       none_given = old.none_given;
+      few_givings = old.few_givings;
+      tallied = old.tallied;
+      carried = old.carried;
+      asked = asked-wider c.self.inside.structures.items _ _ c.in_ok-push.ensures.items c.self.inside.givings.items old.asked;
     }

@@ -1,0 +1,5 @@
+use Rattle.hb_hier.specs.Giving.{givings_at, NewAreMet}
+use Rattle.hb_hier.proofs.hier.Hier.first_unmet_pair.Given as goal
+
+abbrev pub invariant-loop-m : goal.invariant-loop-m
+invariant-loop-m l = NewAreMet l.self (givings_at l.self.givings l.carrier) l.binders l.set l.m

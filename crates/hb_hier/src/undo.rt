@@ -1,0 +1,81 @@
+//! Marks, and the way back to them.
+ghost use Rattle.std.specs.Prelude.{◌≡◌, ◌≤◌, ◌<◌, ◌-◌, ◌^◌, length, take, filter, slice_index_or};
+ghost use Rattle.hb_hier.specs.Giving.{AllBindersBelow};
+ghost use Rattle.hb_hier.specs.Hierarchy.{sets};
+ghost use Rattle.hb_hier.specs.Keeping.{untallied};
+ghost use Rattle.hb_hier.specs.Undoing.{is_kept, cut, mark_of};
+
+use crate::hier::Hier;
+use crate::known::{HierMark, Known};
+use crate::records::{Ending, Tally};
+
+impl Hier {
+    /// The lengths of the lists.
+    pub fn mark(&self) -> HierMark
+        ensures { result ≡ mark_of self.now }
+    {
+        HierMark {
+            mixins: self.mixins.len() as u16,
+            factories: self.factories.len() as u16,
+            ended: ending_count(&self.endings) as u16,
+            structures: self.structures.len() as u16,
+            givings: self.givings.len() as u32,
+        }
+    }
+
+    /// Cuts the lists back to the lengths of the mark. What is kept must name nothing that is cut: each
+    /// structure that a kept instance asks is kept.
+    pub fn undo(&mut self, mark: HierMark)
+        requires givings { mark.givings ≤ length self.old.givings }
+        requires asked { AllBindersBelow mark.structures (take mark.givings self.old.givings) }
+        ensures { self.new ≡ cut self.old mark }
+    {
+        let carriers = carriers_before(&self.tallies, mark.givings as usize);
+        keep_order(&mut self.order, mark);
+        self.mixins.truncate(mark.mixins as usize);
+        self.factories.truncate(mark.factories as usize);
+        self.endings.truncate(mark.ended as usize);
+        self.structures.truncate(mark.structures as usize);
+        self.givings.truncate(mark.givings as usize);
+        self.tallies.truncate(mark.givings as usize);
+        self.carriers.truncate(carriers);
+    }
+}
+
+/// Keeps what was declared of the mixins and factories that the mark keeps.
+fn keep_order(order: &mut Vec<Known>, mark: HierMark)
+    ensures { order.new.items ≡ filter (is_kept mark) order.old.items }
+{
+    order.retain(|k| stays(mark, *k));
+}
+
+/// Whether what was declared is kept.
+fn stays(mark: HierMark, k: Known) -> bool
+    ensures { result ≡ is_kept mark k }
+{
+    match k {
+        Known::Mixin(m) => m.0 < mark.mixins,
+        Known::Factory(f) => f.0 < mark.factories,
+        Known::Structure(s) => s.0 < mark.structures,
+    }
+}
+
+/// How many sections were ended.
+fn ending_count(endings: &Vec<Ending>) -> usize
+    ensures { result ≡ length endings.now.items }
+{
+    endings.len()
+}
+
+/// How many carriers there were after the first `givings` instances.
+fn carriers_before(tallies: &Vec<Tally>, givings: usize) -> usize
+    requires { givings ≤ length tallies.now.items }
+    ensures none { givings ≡ 0 → result ≡ 0 }
+    ensures some { 0 < givings → result ≡ (slice_index_or tallies.now.items (givings - 1) untallied).carriers }
+{
+    if givings == 0 {
+        return 0;
+    }
+    let tally = &tallies[givings - 1];
+    tally.carriers
+}
