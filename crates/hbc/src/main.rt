@@ -4,9 +4,8 @@
 use hb_io::{FileDepot, OutSink};
 use hb_top::{Session, Status, run};
 use std::alloc::{AllocError, Global};
-use std::env;
-use std::io;
 use std::process::ExitCode;
+use std::{env, io};
 
 fn main(rt: HostRuntime) -> ExitCode {
     match run_words(&rt) {
@@ -26,7 +25,13 @@ fn run_words(rt: &HostRuntime) -> Result<Status, AllocError> {
     let mut depot = FileDepot::new(rt);
     let mut out = OutSink::new(io::writer(rt));
     let mut session = Session::new(alloc)?;
-    Ok(run(alloc, borrowed.as_slice(), &mut depot, &mut out, &mut session))
+    Ok(run(
+        alloc,
+        borrowed.as_slice(),
+        &mut depot,
+        &mut out,
+        &mut session,
+    ))
 }
 
 /// The words after the program's name. Words that are no text are no words, which no row of the usage
