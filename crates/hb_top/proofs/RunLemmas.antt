@@ -3,6 +3,7 @@ use Rattle.std.proofs.Common.{true, false, inr, slice_get, get_or, length, take,
 use Rattle.std.proofs.Math.Seq.{take-add}
 use Rattle.std.proofs.lemmas.List.{map-append, take-append-drop}
 use Rattle.hb_io.specs.Told.{grown}
+use Rattle.hb_io.proofs.Sent.{grown-grown}
 use Rattle.hb_lex.specs.declared.error.LexRefused.TheVariants as lex
 use Rattle.hb_lex.specs.Text.{rules}
 use Rattle.hb_lex.specs.Places.{Refuses}
@@ -16,10 +17,6 @@ use Rattle.hb_top.specs.Session.{State}
 use Rattle.hb_top.specs.Step.{Step}
 use Rattle.hb_top.specs.Report.{axiom_line, axiom_lines}
 use Rattle.hb_top.specs.Run.{begins_operator, at_byte, Malformed, Stopped, StopsIn, Run, no_more, one_more, RanTo, Took}
-
-grown-grown : (before : Option (List ℕ)) (xs ys : List ℕ) → grown (grown before xs) ys ≡ grown before (xs ++ ys)
-grown-grown None xs ys = refl
-grown-grown (Some bytes) xs ys = ap Some (append_assoc bytes xs ys)
 
 grown-nothing : (before : Option (List ℕ)) → grown before [] ≡ before
 grown-nothing None = refl

@@ -8,6 +8,7 @@ pub mod Elaborate
 pub mod Step
 pub mod Report
 pub mod Run
+pub mod Exit
 -- what the crate's own functions promise each other
 pub mod Views
 pub mod Ways

@@ -1,5 +1,8 @@
 //! How a run ended.
 
+ghost use Rattle.std.specs.Prelude.{◌≡◌};
+ghost use Rattle.hb_top.specs.Exit.{status_number};
+
 /// The status that a run answers, and the program ends with.
 #[derive(Clone, Copy, Debug, PartialEq, Eq)]
 pub enum Status {
@@ -18,8 +21,10 @@ pub enum Status {
 }
 
 impl Status {
-    /// The number of the status, from 0 to 6.
-    pub fn number(self) -> u8 {
+    /// The number of the status, from 0 to 6, which the program ends with.
+    pub fn number(self) -> u8
+        ensures { result ≡ status_number self }
+    {
         match self {
             Status::Done => 0,
             Status::Refused => 1,
