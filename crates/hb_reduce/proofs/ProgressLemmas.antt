@@ -56,10 +56,10 @@ module _ {A : Type 0} (rule : A → Option A) (term : A → Tree) (L : Budget) (
       ((z : A) × (iterate rule (suc L.steps) start ≡ Some z))
       ⊎ ((n : ℕ) × (z : A) × (iterate rule n start ≡ Some z) × TooLarge L (term z))
 
-  pub so-steps : (n : ℕ) (s z : A) → SoFar rule term L start n s → rule s ≡ Some z → n ≡ L.steps → iterate rule (suc L.steps) start ≡ Some z
+  so-steps : (n : ℕ) (s z : A) → SoFar rule term L start n s → rule s ≡ Some z → n ≡ L.steps → iterate rule (suc L.steps) start ≡ Some z
   so-steps n s z h e q = ap (λ j. iterate rule (suc j) start) (sym q) ∙ iterate-next rule n start s z h.at e
 
-  pub so-not : (n : ℕ) (s : A) → SoFar rule term L start n s → ¬ TooLarge L (term s) → rule s ≡ None → ¬ IterationPasses
+  so-not : (n : ℕ) (s : A) → SoFar rule term L start n s → ¬ TooLarge L (term s) → rule s ≡ None → ¬ IterationPasses
   so-not n s h small e p =
       ⊎_elim
       (λ q. let w = h.within in ends (suc L.steps) q.0 (omega arith) q.1)

@@ -1,6 +1,6 @@
 -- Eta of records, from the arguments of a maker.
-use Rattle.std.proofs.Common.{◌≡◌, ◌∙◌, sym, refl, ap, subst, ℕ, ◌+◌, List, length, drop, length-drop, arith, eq-eqb}
-use Rattle.std.specs.Prelude.{Option, Some, None, slice_get, Bool, true, false, cond, ◌==◌, ◌&&◌, option_and_then}
+use Rattle.std.proofs.Common.{◌≡◌, ◌∙◌, sym, ap, ℕ, ◌+◌, List, length, drop, length-drop, arith, eq-eqb}
+use Rattle.std.specs.Prelude.{Option, Some, None, slice_get, true, cond, ◌==◌, ◌&&◌, option_and_then}
 use Rattle.hb_tree.specs.Tree.{Tree, app, const, head_of, args_of}
 use Rattle.hb_tree.specs.declared.leaves.ConstId.{ConstId}
 use Rattle.hb_tree.specs.declared.leaves.RecId.{RecId}

@@ -1,5 +1,5 @@
 -- Reduction sequences, as the plain bodies follow them.
-use Rattle.std.specs.Prelude.{◌≡◌, ℕ, ◌<◌, ◌≤◌, List, Option, Some}
+use Rattle.std.specs.Prelude.{List, Option}
 use Rattle.hb_tree.specs.Tree.{Tree}
 use Rattle.hb_calculus.specs.Declarations.{Decl}
 use Rattle.hb_calculus.specs.Contraction.{contract, eta_of}

@@ -4,11 +4,18 @@
 
 mod contract;
 mod eta;
+mod generate;
 mod reduce;
+mod samples;
 mod spine;
 mod stage;
 
+pub use generate::{Lots, generated};
 pub use reduce::{nf, whnf};
+pub use samples::{
+    COUPLE, DOUBLE, EMPTY, ITSELF, NATURAL, NEXT, ONE, OTHER, PAIR, SAME, World, ZERO, constant,
+    maker,
+};
 
 #[cfg(test)]
 mod tests;

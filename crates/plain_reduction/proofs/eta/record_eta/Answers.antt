@@ -1,7 +1,6 @@
-use Rattle.std.proofs.Common.{◌≡◌, ◌∙◌, sym, ap, refl, arith, length, drop, ◌+◌}
+use Rattle.std.proofs.Common.{◌≡◌, ◌∙◌, sym, ap, arith, length, drop, ◌+◌}
 use Rattle.std.specs.Prelude.{Some, None, cond}
 use Rattle.hb_term.specs.Meaning.{tree}
-use Rattle.hb_calculus.specs.Contraction.{projected_of}
 use Rattle.plain_reduction.proofs.EtaLemmas.{record-eta}
 use Rattle.plain_reduction.proofs.eta.record_eta.Goals as goal
 

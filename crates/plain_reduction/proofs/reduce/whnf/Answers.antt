@@ -1,9 +1,7 @@
 use Rattle.std.proofs.Common.{◌≡◌, ◌∙◌, sym, refl, ap, true≢false}
 use Rattle.std.specs.Prelude.{Some, None}
 use Rattle.hb_term.specs.Meaning.{tree}
-use Rattle.hb_calculus.specs.Budget.{budget}
 use Rattle.hb_calculus.specs.Contraction.{head_step}
-use Rattle.hb_calculus.specs.Inference.{HeadIs}
 use Rattle.hb_reduce.proofs.ScopeLemmas.{head-scope}
 use Rattle.hb_reduce.proofs.ProgressLemmas.{so-on}
 use Rattle.plain_reduction.proofs.StageLemmas.{head-ends, head-of}

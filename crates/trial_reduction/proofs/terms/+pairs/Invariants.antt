@@ -1,0 +1,4 @@
+use Rattle.trial_reduction.proofs.terms.+pairs.Given as goal
+
+abbrev pub decreases-pairs : goal.decreases-pairs
+decreases-pairs l = l.levels
