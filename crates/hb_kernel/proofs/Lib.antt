@@ -1,0 +1,6 @@
+pub mod FaultLemmas
+pub mod ClosedLemmas
+pub mod ScopeLemmas
+pub mod LeafLemmas
+pub mod CompareLemmas
+pub mod AppliedLemmas

@@ -2,3 +2,8 @@
 pub mod Scoping
 pub mod Places
 pub mod Answers
+-- what the crate's own functions promise each other
+pub mod Contexts
+pub mod Faults
+pub mod Asks
+pub mod Applied
