@@ -4,3 +4,5 @@ pub mod ScopeLemmas
 pub mod LeafLemmas
 pub mod CompareLemmas
 pub mod AppliedLemmas
+pub mod InferLemmas
+pub mod KnownLemmas

@@ -1,5 +1,5 @@
 -- Contexts and the types of their variables.
-use Rattle.std.proofs.Common.{◌≡◌, ℕ, zero, suc, ◌+◌, ◌<◌, ◌≤◌, List, [], ◌∷◌, length, subst, sym, arith}
+use Rattle.std.proofs.Common.{◌≡◌, ℕ, zero, suc, ◌+◌, ◌<◌, ◌≤◌, List, [], ◌∷◌, length, subst, sym, refl, arith}
 use Rattle.std.specs.Prelude.{Some, None, slice_get}
 
 
@@ -19,3 +19,9 @@ is-within [] v h e = omega arith
 is-within (x ∷ G) zero h e = none-some x (sym e)
 is-within (x ∷ G) (suc v) h e = is-within G v (omega arith) e
 
+
+-- there is something at each place of a list
+pub field-at : (xs : List Tree) (i : ℕ) → i < length xs → (x : Tree) × (slice_get xs i ≡ Some x)
+field-at [] i h = absurd (let k : ⊥ = omega arith in k)
+field-at (x ∷ xs) zero h = (x, refl)
+field-at (x ∷ xs) (suc i) h = field-at xs i (omega arith)

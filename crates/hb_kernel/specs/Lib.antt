@@ -7,3 +7,6 @@ pub mod Contexts
 pub mod Faults
 pub mod Asks
 pub mod Applied
+pub mod Known
+pub mod Sizes
+pub mod Levels

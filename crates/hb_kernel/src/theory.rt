@@ -9,9 +9,13 @@ ghost use Rattle.hb_env.specs.Environment.{IsEnvironment};
 ghost use Rattle.hb_kernel.specs.Scoping.{IsReady};
 ghost use Rattle.hb_kernel.specs.Answers.{InferRefusal, CheckRefusal, AddRefusal};
 
+use crate::admit::admit;
 use crate::error::KernelRefused;
+use crate::judge::{check_under, infer_under};
+use crate::known::is_known;
+use crate::scope::Context;
 use hb_base::Limits;
-use hb_env::{Decl, Env};
+use hb_env::{Decl, Env, EnvRefused};
 use hb_term::{ConstId, Scoped, Term};
 use std::alloc::{AllocError, Global};
 use std::marker::Model;
@@ -87,7 +91,14 @@ impl Theory {
         ensures depth { IfOk result (λ ty. ty.depth ≡ t.now.depth) }
         ensures refusal { IfErr result (InferRefusal self.now (budget limits.now) (extended [] (trees context.now)) (tree t.now.term)) }
     {
-        Err(KernelRefused::NoMemory)
+        if !is_known(&self.env, t.term(), u64::from(t.depth())) {
+            return Err(KernelRefused::Unscoped);
+        }
+        let empty = Context::Empty;
+        match infer_under(self.alloc, &self.env, limits, &empty, 0, context, t.term()) {
+            Ok(ty) => Ok(ty),
+            Err(fault) => Err(fault.refusal()),
+        }
     }
 
     /// Whether a term has the type `ty` under a context, as for `infer`. `Unscoped`, of either, before
@@ -107,7 +118,15 @@ impl Theory {
         ensures typed { OnOk result (HasType self.now (extended [] (trees context.now)) (tree t.now.term) (tree ty.now.term)) }
         ensures refusal { IfErr result (CheckRefusal self.now (budget limits.now) (extended [] (trees context.now)) (tree t.now.term) (tree ty.now.term)) }
     {
-        Err(KernelRefused::NoMemory)
+        let depth = u64::from(t.depth());
+        if !is_known(&self.env, t.term(), depth) || !is_known(&self.env, ty.term(), depth) {
+            return Err(KernelRefused::Unscoped);
+        }
+        let empty = Context::Empty;
+        match check_under(self.alloc, &self.env, limits, &empty, 0, context, t.term(), ty.term()) {
+            Ok(()) => Ok(()),
+            Err(fault) => Err(fault.refusal()),
+        }
     }
 
     /// Adds a declaration at the end, and answers its constant. Refused in this order: `Redeclared` with
@@ -124,6 +143,15 @@ impl Theory {
         ensures refusal { IfErr result (AddRefusal self.old (budget limits.now) (plain decl)) }
         ensures unchanged { OnErr result (self.new ≡ self.old) }
     {
-        Err(KernelRefused::NoMemory)
+        match admit(self.alloc, &self.env, limits, &decl) {
+            Ok(()) => {}
+            Err(refused) => return Err(refused),
+        }
+        match self.env.push(decl) {
+            Ok(c) => Ok(c),
+            Err(EnvRefused::TooMany(count)) => Err(KernelRefused::TooMany(count)),
+            Err(EnvRefused::NoMemory) => Err(KernelRefused::NoMemory),
+            Err(EnvRefused::Redeclared(_)) => unreachable!(),
+        }
     }
 }
