@@ -6,3 +6,4 @@ pub mod CompareLemmas
 pub mod AppliedLemmas
 pub mod InferLemmas
 pub mod KnownLemmas
+pub mod SizeLemmas

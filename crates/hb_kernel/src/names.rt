@@ -14,11 +14,21 @@ pub(crate) fn first_repeated(env: &Env, decl: &Decl) -> Option<NameId>
     let _count = env.len();
     for at in 0..decl.name_count() {
         let name = decl.name_at(at);
-        if env.lookup(name).is_some() || stands_before(decl, at, name) {
+        if is_declared(env, name) || stands_before(decl, at, name) {
             return Some(name);
         }
     }
     None
+}
+
+/// Whether the name is declared.
+fn is_declared(env: &Env, name: NameId) -> bool
+    ensures { IsTrue result ↔ IsIn name.0 (names env.now) }
+{
+    match env.lookup(name) {
+        Some(_) => true,
+        None => false,
+    }
 }
 
 /// Whether one of the first `end` names of the declaration is `name`.

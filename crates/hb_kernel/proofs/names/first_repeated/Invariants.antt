@@ -4,4 +4,4 @@ use Rattle.hb_env.specs.Plain.{plain}
 use Rattle.hb_kernel.proofs.names.first_repeated.Given as goal
 
 abbrev pub invariant-loop-at : goal.invariant-loop-at
-invariant-loop-at l = Distinct (names l.env.now ++ take l.at (names_of (plain l.decl.now)))
+invariant-loop-at l = Distinct (names l.env ++ take l.at (names_of (plain l.decl)))
