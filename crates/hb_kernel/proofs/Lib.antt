@@ -7,3 +7,6 @@ pub mod AppliedLemmas
 pub mod InferLemmas
 pub mod KnownLemmas
 pub mod SizeLemmas
+pub mod TelescopeLemmas
+pub mod AcceptLemmas
+pub mod JudgeLemmas

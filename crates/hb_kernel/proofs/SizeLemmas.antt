@@ -1,6 +1,8 @@
 -- The first term that is too large.
-use Rattle.std.proofs.Common.{◌≡◌, ◌∙◌, ℕ, ◌+◌, ◌<◌, List, [], ◌∷◌, ◌++◌, length, drop, get_or, subst, sym, refl, ap, arith}
+use Rattle.std.proofs.Common.{◌≡◌, ◌∙◌, ℕ, ◌+◌, ◌<◌, List, [], ◌∷◌, ◌++◌, length, get_or, subst, sym, refl, ap, arith}
 use Rattle.std.specs.declared.alloc.AllocError.{AllocError}
+use Rattle.std.proofs.lemmas.Slice.{first_rest}
+use Rattle.std.specs.List.{between}
 use Rattle.std.specs.Prelude.{Result, Ok, Err, IfOk, Option, Some, None, MatchOption}
 use Rattle.hb_tree.specs.Tree.{Tree}
 use Rattle.hb_term.specs.Meaning.{tree}
@@ -12,9 +14,12 @@ use Rattle.hb_kernel.specs.Scoping.{AreFit, IsFirstTooLarge, scope_at}
 use Rattle.hb_kernel.specs.Sizes.{IsFirstLarge}
 
 -- the first item of a list, and the others
-pub split-first : {X : Type 0} (xs : List X) (x : X) → 0 < length xs → x ≡ get_or xs 0 x → xs ≡ x ∷ drop 1 xs
-split-first [] x h e = absurd (let k : ⊥ = omega arith in k)
-split-first (y ∷ xs) x h e = ap (λ z. z ∷ xs) (sym e)
+pub split-first : {X : Type 0} (xs : List X) (x : X) → 0 < length xs → x ≡ get_or xs 0 x → xs ≡ x ∷ between 1 (length xs) xs
+split-first xs x h e = first_rest xs x h ∙ ap (λ y. y ∷ between 1 (length xs) xs) (sym e)
+
+pub no-item : {X : Type 0} (xs : List X) → length xs < 1 → xs ≡ []
+no-item [] h = refl
+no-item (x ∷ xs) h = absurd (let k : ⊥ = omega arith in k)
 
 module _ (L : Budget) where
   pub first-large : (ts rest : List Tree) (t : Tree) (n : ℕ) (s : Scoped) → ts ≡ t ∷ rest → tree s.term ≡ t → s.depth ≡ n → TooLarge L t → IsFirstLarge L ts n s
