@@ -10,3 +10,4 @@ pub mod SizeLemmas
 pub mod TelescopeLemmas
 pub mod AcceptLemmas
 pub mod JudgeLemmas
+pub mod RefusalLemmas
