@@ -45,11 +45,10 @@ module _ (E : List Decl) (L : Budget) where
   record-accepted k l ps fs h e n m = accepts_record h.0 h.2.0 h.1 h.2.1 (sym e ∙ h.2.2)
 
   pub level-refused : (k l : ℕ) (ps : List Tree) (fs : List (ℕ × Tree)) (x y : Tree) (i : ℕ) → i ≡ 0 → TelescopeLevelIs E L [] ps (field_types fs) l → l ≢ k → x ≡ sort (Level l) → y ≡ sort (Level k) → (n m : ℕ) → RefusesAt E L (a_record n m ps k fs) (not_convertible x y) i
-  level-refused k l ps fs x y i z h d e g n m =
-      (
-        refuses_level h.0 h.2.0 h.1 h.2.1 (λ p. d (h.2.2 ∙ sym p)) ((λ i. not_convertible (e i) (g i)) ∙ ap (λ j. not_convertible (sort (Level j)) (sort (Level k))) h.2.2),
-        sym z,
-      )
+  level-refused k l ps fs x y i z h d e g n m = (
+    refuses_level h.0 h.2.0 h.1 h.2.1 (λ p. d (h.2.2 ∙ sym p)) ((λ i. not_convertible (e i) (g i)) ∙ ap (λ j. not_convertible (sort (Level j)) (sort (Level k))) h.2.2),
+    sym z,
+  )
 
   -- declarations
   pub axiom-accepted : (d : Decl) (n : ℕ) (t : Tree) (s : Sort) → d ≡ an_axiom n t → SortIs E L [] t s → Accepts E L d

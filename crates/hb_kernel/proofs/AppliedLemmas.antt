@@ -17,8 +17,7 @@ pub applied-more : (t f a : Tree) (r n : ℕ) (vs : List Term) (x : Term) → t 
 applied-more t f a r n vs x e h l z k =
     let s : trees (vs ++ x ∷ []) ≡ trees vs ++ tree x ∷ [] = map-append tree vs (x ∷ []) in
     let p : apply (former r) (trees vs ++ tree x ∷ []) ≡ app (apply (former r) (trees vs)) (tree x) = apply-append (former r) (trees vs) (tree x ∷ []) in
-    let q = length-append (trees vs) (tree x ∷ []) in
-    (
+    let q = length-append (trees vs) (tree x ∷ []) in (
       e ∙ ap (λ g. app g a) h ∙ ap (λ y. app (apply (former r) (trees vs)) y) (sym k) ∙ sym p ∙ ap (apply (former r)) (sym s),
       ap length s ∙ q ∙ (let m : length (trees vs) + 1 ≡ n = omega arith in m),
     )

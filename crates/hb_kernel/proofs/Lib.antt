@@ -11,3 +11,4 @@ pub mod TelescopeLemmas
 pub mod AcceptLemmas
 pub mod JudgeLemmas
 pub mod RefusalLemmas
+pub mod TheoryLemmas

@@ -1,8 +1,6 @@
 -- Contexts and the types of their variables.
 use Rattle.std.proofs.Common.{◌≡◌, ℕ, zero, suc, ◌+◌, ◌<◌, ◌≤◌, List, [], ◌∷◌, length, subst, sym, refl, arith}
 use Rattle.std.specs.Prelude.{Some, None, slice_get}
-
-
 use Rattle.std.proofs.lemmas.Option.{none-some}
 use Rattle.hb_tree.specs.Tree.{Tree, loose}
 use Rattle.hb_calculus.proofs.Options.{Some-injective}
@@ -18,7 +16,6 @@ pub is-within : (G : List Tree) (v : ℕ) → v < length G → slice_get G v ≡
 is-within [] v h e = omega arith
 is-within (x ∷ G) zero h e = none-some x (sym e)
 is-within (x ∷ G) (suc v) h e = is-within G v (omega arith) e
-
 
 -- there is something at each place of a list
 pub field-at : (xs : List Tree) (i : ℕ) → i < length xs → (x : Tree) × (slice_get xs i ≡ Some x)

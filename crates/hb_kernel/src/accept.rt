@@ -56,12 +56,7 @@ pub(crate) fn check<'t, 'c>(
 }
 
 /// The asks of a declaration.
-pub(crate) fn accept(
-    alloc: Global,
-    env: &Env,
-    limits: &Limits,
-    decl: &Decl,
-) -> Result<(), Fault>
+pub(crate) fn accept(alloc: Global, env: &Env, limits: &Limits, decl: &Decl) -> Result<(), Fault>
     requires { IsKnownDecl env.now (plain decl.now) }
     ensures accepted { OnOk result (Accepts env.now (budget limits.now) (plain decl.now)) }
     ensures fault { IfErr result (FaultOf (RefusesAt env.now (budget limits.now) (plain decl.now))) }

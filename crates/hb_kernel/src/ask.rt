@@ -40,12 +40,7 @@ pub(crate) fn head_of(
 }
 
 /// The sort that the type is.
-pub(crate) fn sort_of(
-    alloc: Global,
-    env: &Env,
-    limits: &Limits,
-    ty: &Scoped,
-) -> Result<Sort, Fault>
+pub(crate) fn sort_of(alloc: Global, env: &Env, limits: &Limits, ty: &Scoped) -> Result<Sort, Fault>
     ensures sort { IfOk result (λ s. HeadIs env.now (budget limits.now) (tree ty.now.term) (sort s)) }
     ensures fault { IfErr result (FaultOf (NotOfFormAt env.now (budget limits.now) IsSort not_sort ty.now)) }
 {

@@ -46,7 +46,9 @@ pub(crate) fn infer<'t, 'c>(
         Term::Pi(a, b) => product(alloc, env, limits, context, depth, a, b),
         Term::Lam(a, b) => function(alloc, env, limits, context, depth, a, b),
         Term::App(f, x) => application(alloc, env, limits, context, depth, f, x),
-        Term::Proj(rec, field, of) => projection(alloc, env, limits, context, depth, *rec, *field, of),
+        Term::Proj(rec, field, of) => projection(
+            alloc, env, limits, context, depth, *rec, *field, of,
+        ),
         Term::Hole(_) => unreachable!(),
     }
 }

@@ -31,7 +31,8 @@ fn names_declared(env: &Env, t: &Term) -> bool
         Term::Lam(a, b) => names_declared(env, a.as_ref()) && names_declared(env, b.as_ref()),
         Term::App(f, a) => names_declared(env, f.as_ref()) && names_declared(env, a.as_ref()),
         Term::Const(c) => is_constant(env, *c),
-        Term::Proj(rec, field, of) => is_field(env, *rec, *field) && names_declared(env, of.as_ref()),
+        Term::Proj(rec, field, of) => is_field(env, *rec, *field)
+            && names_declared(env, of.as_ref()),
         Term::Hole(_) => false,
     }
 }
@@ -76,7 +77,8 @@ fn types_known(env: &Env, params: &[Term], fields: &[(NameId, Term)], under: u64
 {
     match params {
         [] => fields_known(env, fields, under),
-        [first, rest @ ..] => is_known(env, first, under) && types_known(env, rest, fields, under + 1),
+        [first, rest @ ..] => is_known(env, first, under)
+            && types_known(env, rest, fields, under + 1),
     }
 }
 

@@ -21,13 +21,7 @@ impl<'t, 'c> Context<'t, 'c> {
     {
         match self {
             Context::Empty => None,
-            Context::Under(ty, outer) => {
-                if v == 0 {
-                    Some(*ty)
-                } else {
-                    outer.get(v - 1)
-                }
-            }
+            Context::Under(ty, outer) => { if v == 0 { Some(*ty) } else { outer.get(v - 1) } }
         }
     }
 }

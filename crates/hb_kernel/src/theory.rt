@@ -123,7 +123,16 @@ impl Theory {
             return Err(KernelRefused::Unscoped);
         }
         let empty = Context::Empty;
-        match check_under(self.alloc, &self.env, limits, &empty, 0, context, t.term(), ty.term()) {
+        match check_under(
+            self.alloc,
+            &self.env,
+            limits,
+            &empty,
+            0,
+            context,
+            t.term(),
+            ty.term(),
+        ) {
             Ok(()) => Ok(()),
             Err(fault) => Err(fault.refusal()),
         }

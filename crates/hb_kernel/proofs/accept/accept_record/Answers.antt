@@ -14,9 +14,8 @@ returns-then-least-level-clause-accepted c =
     record-accepted c.args.env.now (budget c.args.limits.now) c.args.level c.in-Ok.least (trees c.args.params.now) (plain_fields c.args.fields.now) c.in-Ok.ensures.level c.if-least-level.true
 
 pub returns-else-least-level-clause-fault : goal.returns-else-least-level-clause-fault
-returns-else-least-level-clause-fault c =
-    (
-      level-refused c.args.env.now (budget c.args.limits.now) c.args.level c.in-Ok.least (trees c.args.params.now) (plain_fields c.args.fields.now) (tree c.level_sort.result.term) (tree c.level_sort-else-least-level.result.term) c.level_sort.result.depth
+returns-else-least-level-clause-fault c = (
+  level-refused c.args.env.now (budget c.args.limits.now) c.args.level c.in-Ok.least (trees c.args.params.now) (plain_fields c.args.fields.now) (tree c.level_sort.result.term) (tree c.level_sort-else-least-level.result.term) c.level_sort.result.depth
       c.level_sort.ensures.depth c.in-Ok.ensures.level c.if-least-level.false c.level_sort.ensures.term c.level_sort-else-least-level.ensures.term,
-      c.level_sort-else-least-level.ensures.depth ∙ sym c.level_sort.ensures.depth,
-    )
+  c.level_sort-else-least-level.ensures.depth ∙ sym c.level_sort.ensures.depth,
+)

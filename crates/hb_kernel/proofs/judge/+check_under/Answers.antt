@@ -21,8 +21,7 @@ check_under-requires t c =
     let e : xs ≡ x ∷ ys = split-first xs x (omega (arith, c.in-len1-up.len_at_least)) c.first-item.is in
     let l = ap length e in
     let f = c.decreases in
-    let d = c.in_ok-under-in-len1-up.ensures in
-    (
+    let d = c.in_ok-under-in-len1-up.ensures in (
       omega arith,
       (inner-context c.args.env.now G c.args.depth c.in_ok-under-in-len1-up.under xs ys x e d c.requires.context c.requires.types, (inner-types c.args.env.now G xs ys x e c.requires.types, (inner-known c.args.env.now c.args.depth c.in_ok-under-in-len1-up.under xs ys x (tree c.args.t.now) e d c.requires.term, inner-known c.args.env.now c.args.depth c.in_ok-under-in-len1-up.under xs ys x (tree c.args.ty.now) e d c.requires.known))),
     )
