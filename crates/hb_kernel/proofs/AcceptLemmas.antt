@@ -1,5 +1,5 @@
 -- The asks of a term against its type, and of a declaration.
-use Rattle.std.proofs.Common.{◌≡◌, ◌∙◌, ℕ, ◌≢◌, List, [], ◌∷◌, length, inl, inr, sym, refl, subst, ap}
+use Rattle.std.proofs.Common.{◌≡◌, ◌∙◌, ℕ, ◌≢◌, List, [], length, inl, inr, sym, subst, ap}
 use Rattle.std.specs.Prelude.{Result, Ok, Err, IfErr}
 use Rattle.hb_tree.specs.Tree.{Tree, sort}
 use Rattle.hb_tree.specs.declared.leaves.Sort.{Sort}
@@ -8,8 +8,7 @@ use Rattle.hb_term.specs.Meaning.{tree}
 use Rattle.hb_term.specs.declared.scoped.Scoped.{Scoped}
 use Rattle.hb_calculus.specs.Declarations.{Decl, an_axiom, a_definition, a_record, field_types}
 use Rattle.hb_calculus.specs.Budget.{Budget}
-use Rattle.hb_calculus.specs.Typing.{extended}
-use Rattle.hb_calculus.specs.Inference.{Cause, not_convertible, Infers, SortIs, NotBelow, check_type, check_term, check_below, Checks, Accepts, accepts_axiom, accepts_definition, accepts_record, Refuses, refuses_axiom, refuses_definition, refuses_param, refuses_field, refuses_level, least_level}
+use Rattle.hb_calculus.specs.Inference.{Cause, not_convertible, Infers, SortIs, NotBelow, check_type, check_term, check_below, Checks, Accepts, accepts_axiom, accepts_definition, accepts_record, refuses_axiom, refuses_definition, refuses_param, refuses_field, refuses_level}
 use Rattle.hb_kernel.specs.Answers.{FailsAt, NotCheckedAt, RefusesAt}
 use Rattle.hb_kernel.specs.Asks.{NotTypeAt, NotBelowAt}
 use Rattle.hb_kernel.specs.Faults.{FaultOf}

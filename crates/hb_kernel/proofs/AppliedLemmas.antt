@@ -1,5 +1,5 @@
 -- Type formers with their arguments.
-use Rattle.std.proofs.Common.{◌≡◌, ◌≢◌, ℕ, zero, suc, ◌+◌, ◌-◌, ◌≤◌, List, [], ◌∷◌, ◌++◌, length, subst, sym, refl, ap, ◌∙◌, arith, length-append, append-nil}
+use Rattle.std.proofs.Common.{◌≡◌, ◌≢◌, ℕ, ◌+◌, ◌-◌, ◌≤◌, List, [], ◌∷◌, ◌++◌, length, sym, ap, ◌∙◌, arith, length-append}
 use Rattle.std.specs.Prelude.{Some, slice_get}
 use Rattle.std.proofs.lemmas.List.{map-append}
 use Rattle.hb_tree.specs.Tree.{Tree, app, apply, head_of, args_of, loose}
@@ -8,7 +8,6 @@ use Rattle.hb_term.specs.declared.term.Term.{Term}
 use Rattle.hb_calculus.specs.Declarations.{Decl, Record, record_in}
 use Rattle.hb_calculus.specs.Telescopes.{former}
 use Rattle.hb_calculus.specs.Inference.{IsRecord}
-use Rattle.hb_calculus.proofs.Options.{Some-injective}
 use Rattle.hb_calculus.proofs.Spines.{apply-append, head-apply, args-apply}
 use Rattle.hb_env.specs.Plain.{trees}
 use Rattle.hb_kernel.specs.Applied.{IsApplied, AreLoose}

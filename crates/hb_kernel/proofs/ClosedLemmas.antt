@@ -1,5 +1,5 @@
 -- What is declared has no variable from outside its telescope.
-use Rattle.std.proofs.Common.{◌≡◌, ℕ, zero, suc, ◌+◌, ◌≤◌, Bool, true, false, cond, List, [], ◌∷◌, ◌++◌, length, subst, sym, refl, ap, ◌∙◌, arith, length-append}
+use Rattle.std.proofs.Common.{◌≡◌, ℕ, zero, suc, ◌+◌, ◌≤◌, Bool, true, false, cond, List, [], ◌∷◌, ◌++◌, length, subst, refl, arith, length-append}
 use Rattle.std.specs.Prelude.{Option, Some, None, slice_get}
 use Rattle.std.proofs.lemmas.Option.{none-some}
 use Rattle.hb_tree.specs.Tree.{Tree, sort, loose, subst_at, apply, app}
@@ -8,7 +8,7 @@ use Rattle.hb_tree.specs.declared.leaves.RecId.{RecId}
 use Rattle.hb_tree.specs.declared.leaves.Sort.TheVariants.{Level}
 use Rattle.hb_tree.proofs.Sizes.{loose_subst}
 use Rattle.hb_calculus.specs.Declarations.{Decl, an_axiom, a_definition, a_record, field_types, Record, record_in}
-use Rattle.hb_calculus.specs.Telescopes.{products, variables, former, maker_type, former_type, type_in, projections, filled, projection_type}
+use Rattle.hb_calculus.specs.Telescopes.{products, variables, former, maker_type, type_in, projections, filled, projection_type}
 use Rattle.hb_calculus.specs.Scope.{AreScoped, IsScopedDecl}
 use Rattle.hb_calculus.proofs.Options.{Some-injective}
 use Rattle.hb_env.specs.Environment.{AreScopedDecls}

@@ -1,5 +1,5 @@
 -- Two types that are not in order.
-use Rattle.std.proofs.Common.{◌≡◌, ℕ, List, subst, sym, inl, inr, ⊎_elim, refl}
+use Rattle.std.proofs.Common.{◌≡◌, List, subst, sym, ⊎_elim}
 use Rattle.hb_tree.specs.Tree.{Tree}
 use Rattle.hb_term.specs.Meaning.{tree}
 use Rattle.hb_term.specs.declared.scoped.Scoped.{Scoped}

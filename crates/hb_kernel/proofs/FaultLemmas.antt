@@ -1,5 +1,5 @@
 -- Faults with one cause in the place of another.
-use Rattle.std.proofs.Common.{◌≡◌, ℕ, List, subst, sym}
+use Rattle.std.proofs.Common.{ℕ, List, subst, sym}
 use Rattle.hb_tree.specs.Tree.{Tree}
 use Rattle.hb_term.specs.Meaning.{tree}
 use Rattle.hb_term.specs.declared.scoped.Scoped.{Scoped}
@@ -8,7 +8,7 @@ use Rattle.hb_calculus.specs.Budget.{Budget}
 use Rattle.hb_calculus.specs.Inference.{Cause, NotOfForm, form_spent}
 use Rattle.hb_kernel.specs.declared.fault.Fault.{Fault}
 use Rattle.hb_kernel.specs.declared.fault.Fault.TheVariants.{Kept, Apart, LevelTooHigh, NoMemory}
-use Rattle.hb_kernel.specs.Faults.{FaultOf, kept}
+use Rattle.hb_kernel.specs.Faults.{FaultOf}
 use Rattle.hb_kernel.specs.Asks.{HeadFault, NotOfFormAt}
 
 pub map-fault : (P Q : Cause → ℕ → Type 0) → ((c : Cause) (n : ℕ) → P c n → Q c n) → (e : Fault) → FaultOf P e → FaultOf Q e

@@ -1,16 +1,16 @@
 -- Faults of parts as faults of the whole.
-use Rattle.std.proofs.Common.{◌≡◌, ◌∙◌, ℕ, ◌+◌, List, [], ◌∷◌, length, sym, refl, subst, ap, arith}
-use Rattle.std.specs.Prelude.{Result, Ok, Err, IfErr, Some, slice_get}
-use Rattle.hb_tree.specs.Tree.{Tree, pi, lam, app, proj, sort}
+use Rattle.std.proofs.Common.{◌≡◌, ◌∙◌, ℕ, ◌+◌, List, ◌∷◌, length, sym, arith}
+use Rattle.std.specs.Prelude.{Result, Ok, Err, IfErr}
+use Rattle.hb_tree.specs.Tree.{Tree, pi, lam, app, proj}
 use Rattle.hb_tree.specs.declared.leaves.RecId.{RecId}
 use Rattle.hb_tree.specs.declared.leaves.Sort.{Sort}
 use Rattle.hb_term.specs.Meaning.{tree}
 use Rattle.hb_term.specs.declared.scoped.Scoped.{Scoped}
 use Rattle.hb_calculus.specs.Declarations.{Decl}
 use Rattle.hb_calculus.specs.Budget.{Budget}
-use Rattle.hb_calculus.specs.Inference.{Cause, HeadIs, IsSort, IsProduct, IsRecord, not_function, not_sort, not_record, Infers, Fails, SortIs, NotOfForm, NotBelow, NotType, type_fails, type_sort}
+use Rattle.hb_calculus.specs.Inference.{Cause, IsSort, IsProduct, IsRecord, not_function, not_sort, not_record, Infers, SortIs, NotType, type_fails, type_sort}
 use Rattle.hb_calculus.specs.Inference.{fails_domain, fails_domain_sort, fails_codomain, fails_codomain_sort, fails_binder, fails_binder_sort, fails_body, fails_function, fails_function_product, fails_argument, fails_argument_below, fails_projected, fails_projected_record}
-use Rattle.hb_kernel.specs.Places.{place, type_place}
+use Rattle.hb_kernel.specs.Places.{type_place}
 use Rattle.hb_kernel.specs.Answers.{FailsAt}
 use Rattle.hb_kernel.specs.Asks.{NotOfFormAt, NotBelowAt, NotTypeAt, Applies}
 use Rattle.hb_kernel.specs.Faults.{FaultOf}

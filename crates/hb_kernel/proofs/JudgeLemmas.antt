@@ -1,11 +1,9 @@
 -- One type of a context more.
-use Rattle.std.proofs.Common.{◌≡◌, ◌∙◌, ℕ, suc, ◌+◌, ◌≤◌, ◌<◌, List, [], ◌∷◌, length, sym, refl, subst, ap, arith}
-use Rattle.std.specs.Prelude.{Result, Ok, Err, IfErr}
-use Rattle.hb_tree.specs.Tree.{Tree, loose}
+use Rattle.std.proofs.Common.{◌≡◌, ℕ, ◌+◌, List, ◌∷◌, length, subst, ap, arith}
+use Rattle.hb_tree.specs.Tree.{Tree}
 use Rattle.hb_term.specs.declared.term.Term.{Term}
 use Rattle.hb_term.specs.Meaning.{tree}
 use Rattle.hb_calculus.specs.Declarations.{Decl}
-use Rattle.hb_calculus.specs.Scope.{IsScoped}
 use Rattle.hb_calculus.specs.Typing.{AreTypes}
 use Rattle.hb_calculus.proofs.WellScoped.{HasType-scoped}
 use Rattle.hb_env.specs.Plain.{trees}

@@ -1,13 +1,12 @@
 -- Fields of records.
-use Rattle.std.proofs.Common.{◌≡◌, ℕ, ◌<◌, List, length, subst, sym, ap, ◌∙◌, arith}
-use Rattle.std.specs.Prelude.{Option, Some, slice_get}
+use Rattle.std.proofs.Common.{◌≡◌, ℕ, ◌<◌, List, length, sym, ap, arith}
+use Rattle.std.specs.Prelude.{Some, slice_get}
 use Rattle.hb_base.specs.declared.name_id.NameId.{NameId}
 use Rattle.hb_term.specs.declared.term.Term.{Term}
 use Rattle.hb_tree.specs.Tree.{Tree}
-use Rattle.hb_calculus.specs.Declarations.{Decl, a_record, Record, record_in, field_types}
+use Rattle.hb_calculus.specs.Declarations.{Decl, a_record, record_in, field_types}
 use Rattle.hb_calculus.specs.Scope.{IsField}
-use Rattle.hb_calculus.proofs.Options.{Some-injective}
-use Rattle.hb_env.specs.Plain.{trees, plain_fields}
+use Rattle.hb_env.specs.Plain.{plain_fields}
 use Rattle.hb_env.proofs.ListLemmas.{length_field_types}
 use Rattle.hb_record.proofs.FilledLemmas.{record_is}
 

@@ -1,7 +1,6 @@
 -- The inferred types of sorts, variables and constants.
 use Rattle.std.proofs.Common.{◌≡◌, ℕ, ◌+◌, ◌<◌, ◌≤◌, List, length, subst, sym, refl}
-use Rattle.std.specs.Prelude.{Some, slice_get}
-use Rattle.hb_tree.specs.Tree.{Tree, sort, rel, const, lift}
+use Rattle.hb_tree.specs.Tree.{Tree, sort}
 use Rattle.hb_tree.specs.declared.leaves.Sort.{Sort}
 use Rattle.hb_tree.specs.declared.leaves.Sort.TheVariants.{Prop, Level}
 use Rattle.hb_calculus.specs.Declarations.{Decl}

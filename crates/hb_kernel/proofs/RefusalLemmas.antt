@@ -1,6 +1,5 @@
 -- Faults as refusals.
 use Rattle.std.proofs.Common.{◌≡◌, ℕ, inr, subst, sym, List}
-use Rattle.hb_tree.specs.Tree.{Tree}
 use Rattle.hb_calculus.specs.Declarations.{Decl}
 use Rattle.hb_calculus.specs.Budget.{Budget}
 use Rattle.hb_calculus.specs.Inference.{Cause}
@@ -8,7 +7,6 @@ use Rattle.hb_kernel.specs.Scoping.{IsReady}
 use Rattle.hb_kernel.specs.Answers.{RefusesAt, AddRefusal, IsRefusal}
 use Rattle.hb_kernel.specs.Faults.{FaultOf, refusal}
 use Rattle.hb_kernel.specs.declared.error.KernelRefused.{KernelRefused}
-use Rattle.hb_kernel.specs.declared.fault.Ask.{Ask}
 use Rattle.hb_kernel.specs.declared.fault.Ask.TheVariants.{NotFunction, NotSort, NotRecord, Spent}
 use Rattle.hb_kernel.specs.declared.fault.Fault.{Fault}
 use Rattle.hb_kernel.specs.declared.fault.Fault.TheVariants.{Kept, Apart, LevelTooHigh, NoMemory}

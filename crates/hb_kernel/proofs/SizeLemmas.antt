@@ -10,7 +10,7 @@ use Rattle.hb_term.specs.declared.term.Term.{Term}
 use Rattle.hb_term.specs.declared.scoped.Scoped.{Scoped}
 use Rattle.hb_calculus.specs.Declarations.{Decl, an_axiom, a_definition, a_record, terms_of, field_types}
 use Rattle.hb_calculus.specs.Budget.{Budget, TooLarge}
-use Rattle.hb_kernel.specs.Scoping.{AreFit, IsFirstTooLarge, scope_at}
+use Rattle.hb_kernel.specs.Scoping.{AreFit, IsFirstTooLarge}
 use Rattle.hb_kernel.specs.Sizes.{IsFirstLarge}
 
 -- the first item of a list, and the others

@@ -1,12 +1,10 @@
 -- The asks of types, one more in front.
-use Rattle.std.proofs.Common.{◌≡◌, ◌∙◌, ℕ, List, [], ◌∷◌, inl, inr, sym, refl, subst, ◌⊎◌}
+use Rattle.std.proofs.Common.{◌≡◌, ℕ, List, [], ◌∷◌, inl, inr, sym, refl, subst}
 use Rattle.hb_tree.specs.Tree.{Tree}
 use Rattle.hb_tree.specs.declared.leaves.Sort.{Sort}
 use Rattle.hb_calculus.specs.Declarations.{Decl}
 use Rattle.hb_calculus.specs.Budget.{Budget}
-use Rattle.hb_calculus.specs.Typing.{extended}
-use Rattle.hb_calculus.specs.Inference.{Cause, SortIs, SortsAre, sorts_end, sorts_next, least_level, NotTypes, types_first, types_later}
-use Rattle.hb_kernel.specs.Places.{types_place}
+use Rattle.hb_calculus.specs.Inference.{Cause, SortIs, sorts_end, sorts_next, least_level, types_first, types_later}
 use Rattle.hb_kernel.specs.Asks.{NotTypeAt}
 use Rattle.hb_kernel.specs.Faults.{FaultOf}
 use Rattle.hb_kernel.specs.Levels.{LevelIs, TelescopeLevelIs, NotTypesAt, NotTelescopeAt}

@@ -5,7 +5,7 @@
 //! `p4.1 T` the projection of T to field 1 of the record of declaration 4, and `?` a hole.
 use hb_base::NameId;
 use hb_env::Decl;
-use hb_term::{ConstId, RecId, Sort, Term};
+use hb_term::{ConstId, RecId, Scoped, Sort, Term};
 use std::alloc::{AllocError, Global};
 use std::vec::Vec;
 
@@ -18,57 +18,129 @@ pub(crate) enum Form {
     Record { level: u8, params: usize },
 }
 
-/// What is read so far, from the end of a text back to its start: terms, the first one last, and the digits
-/// before the next former.
-#[derive(Drop)]
-struct Reader {
-    alloc: Global,
-    terms: Vec<Term>,
-    number: u32,
-    place: u32,
-    field: u32,
+/// A declaration as it is written.
+#[derive(Clone, Copy)]
+pub(crate) struct Line(pub(crate) Form, pub(crate) &'static str);
+
+/// The term of the text.
+pub(crate) fn term(alloc: Global, text: &str) -> Result<Term, AllocError> {
+    let mut terms = terms(alloc, text)?;
+    Ok(next(&mut terms))
 }
 
-impl Reader {
-    /// Takes the byte before those read.
-    fn take(&mut self, byte: u8) -> Result<(), AllocError> {
-        match byte {
-            b'0'..=b'9' => self.digit(u32::from(byte - b'0')),
-            b'.' => self.field(),
+/// The term of the text in a scope.
+pub(crate) fn scoped(alloc: Global, text: &str, depth: u32) -> Result<Scoped, AllocError> {
+    Scoped::new(term(alloc, text)?, depth).ok_or(AllocError)
+}
+
+/// The declaration of the line. Its own name has the number, its maker the next one, and then its fields.
+pub(crate) fn declaration(alloc: Global, name: u16, line: Line) -> Result<Decl, AllocError> {
+    let Line(form, text) = line;
+    let mut terms = terms(alloc, text)?;
+    let first = NameId(name);
+    match form {
+        Form::Axiom => Ok(Decl::Axiom {
+            name: first,
+            ty: next(&mut terms),
+        }),
+        Form::Def => Ok(Decl::Def {
+            name: first,
+            ty: next(&mut terms),
+            body: next(&mut terms),
+        }),
+        Form::Record { level, params } => record(alloc, name, level, params, terms),
+    }
+}
+
+/// The record with the terms, the last one first.
+fn record(
+    alloc: Global,
+    name: u16,
+    level: u8,
+    count: usize,
+    terms: Vec<Term>,
+) -> Result<Decl, AllocError> {
+    let mut terms = terms;
+    let mut params = Vec::new(alloc);
+    for _i in 0..count {
+        params.push(next(&mut terms))?;
+    }
+    let mut fields = Vec::new(alloc);
+    let mut named = name.saturating_add(2);
+    while let Some(ty) = terms.pop() {
+        fields.push((NameId(named), ty))?;
+        named = named.saturating_add(1);
+    }
+    Ok(Decl::Record {
+        name: NameId(name),
+        maker: NameId(name.saturating_add(1)),
+        params,
+        level,
+        fields,
+    })
+}
+
+/// The terms of the text, the first one last.
+fn terms(alloc: Global, text: &str) -> Result<Vec<Term>, AllocError> {
+    let mut terms = Vec::new(alloc);
+    let mut number: u32 = 0;
+    let mut place: u32 = 1;
+    let mut field: u32 = 0;
+    for byte in text.as_bytes().iter().rev() {
+        match *byte {
+            b'0'..=b'9' => {
+                number = number.saturating_add(place.saturating_mul(u32::from(*byte - b'0')));
+                place = place.saturating_mul(10);
+            }
+            b'.' => {
+                field = number;
+                number = 0;
+                place = 1;
+            }
             b' ' => {}
-            _ => {
-                let term = self.former(byte)?;
-                self.terms.push(term)?;
-                self.number = 0;
-                self.place = 1;
+            former => {
+                let made = made(alloc, &mut terms, former, number, field)?;
+                terms.push(made)?;
+                number = 0;
+                place = 1;
             }
         }
-        Ok(())
     }
+    Ok(terms)
+}
 
-    /// One digit more in front of the number.
-    fn digit(&mut self, digit: u32) {
-        self.number = self.number.saturating_add(self.place.saturating_mul(digit));
-        self.place = self.place.saturating_mul(10);
+/// The term that the former makes of the terms behind it.
+fn made(
+    alloc: Global,
+    terms: &mut Vec<Term>,
+    former: u8,
+    number: u32,
+    field: u32,
+) -> Result<Term, AllocError> {
+    match former {
+        b'P' => Ok(Term::Sort(Sort::Prop)),
+        b'T' => Ok(Term::Sort(Sort::Level(number.min(255) as u8))),
+        b'v' => Ok(Term::Rel(number)),
+        b'c' => Ok(Term::Const(ConstId {
+            decl: number,
+            maker: false,
+        })),
+        b'm' => Ok(Term::Const(ConstId {
+            decl: number,
+            maker: true,
+        })),
+        b'>' => Term::pi(alloc, next(terms), next(terms)),
+        b'\\' => Term::lam(alloc, next(terms), next(terms)),
+        b'@' => Term::app(alloc, next(terms), next(terms)),
+        b'p' => Term::proj(alloc, RecId(number), field.min(65_535) as u16, next(terms)),
+        _ => Ok(Term::Hole(0)),
     }
+}
 
-    /// The number was that of a field.
-    fn field(&mut self) {
-        self.field = self.number;
-        self.number = 0;
-        self.place = 1;
-    }
-
-    /// The term that the former begins.
-    fn former(&mut self, byte: u8) -> Result<Term, AllocError> {
-        match byte {
-            b'>' => self.pair(Term::pi),
-            _ => self.leaf(byte),
-        }
-    }
-
-    /// The next term behind.
-    fn next(&mut self) -> Term {
-        self.terms.pop().unwrap_or(Term::Hole(0))
+/// The next term; a hole where there is none.
+fn next(terms: &mut Vec<Term>) -> Term {
+    match terms.pop() {
+        Some(term) => term,
+        None => Term::Hole(0),
     }
 }

@@ -1,4 +1,4 @@
-use Rattle.std.proofs.Common.{◌≤◌, refl, ap, sym, subst, arith}
+use Rattle.std.proofs.Common.{◌≤◌, refl, subst, arith}
 use Rattle.hb_tree.specs.Tree.{loose, apply}
 use Rattle.hb_term.specs.Meaning.{tree}
 use Rattle.hb_calculus.specs.Telescopes.{former}

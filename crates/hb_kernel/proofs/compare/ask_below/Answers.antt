@@ -1,4 +1,3 @@
-use Rattle.std.proofs.Common.{◌∙◌}
 use Rattle.hb_kernel.proofs.CompareLemmas.{spent-not-below}
 use Rattle.hb_kernel.proofs.compare.ask_below.Goals as goal
 

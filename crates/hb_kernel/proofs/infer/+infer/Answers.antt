@@ -1,4 +1,4 @@
-use Rattle.std.proofs.Common.{◌≡◌, ◌≤◌, ◌∙◌, Some, slice_get, refl, sym, ap, subst, arith}
+use Rattle.std.proofs.Common.{◌≡◌, ◌≤◌, ◌∙◌, refl, sym, ap, subst, arith}
 use Rattle.hb_tree.specs.Tree.{loose, subst_at, sort, pi, lam}
 use Rattle.hb_tree.proofs.Sizes.{loose_subst}
 use Rattle.hb_term.specs.Meaning.{tree}

@@ -1,4 +1,4 @@
-use Rattle.std.proofs.Common.{ℕ, ◌+◌, ◌*◌, max}
+use Rattle.std.proofs.Common.{◌+◌, ◌*◌, max}
 use Rattle.hb_tree.specs.Tree.{depth}
 use Rattle.hb_term.specs.Meaning.{tree}
 use Rattle.hb_kernel.proofs.infer.+infer.Given as goal

@@ -1,4 +1,4 @@
-use Rattle.std.proofs.Common.{◌≡◌, ◌∷◌, ◌<◌, List, length, arith, ap, sym, subst}
+use Rattle.std.proofs.Common.{◌≡◌, ◌∷◌, List, length, arith, ap, sym, subst}
 use Rattle.std.specs.List.{between}
 use Rattle.hb_term.specs.Meaning.{tree}
 use Rattle.hb_term.specs.declared.term.Term.{Term}

@@ -1,4 +1,4 @@
-use Rattle.std.proofs.Common.{◌≡◌, ◌<◌, length, Some, slice_get, arith, ap}
+use Rattle.std.proofs.Common.{◌≡◌, ◌<◌, length, Some, slice_get, arith}
 use Rattle.std.proofs.lemmas.Bool.Decides.{nat_tests}
 use Rattle.hb_calculus.specs.Declarations.{a_record}
 use Rattle.hb_env.specs.Plain.{trees, plain_fields}

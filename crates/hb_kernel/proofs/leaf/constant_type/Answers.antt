@@ -1,5 +1,4 @@
-use Rattle.std.proofs.Common.{◌≡◌, ◌≤◌, Some, slice_get, rules, arith, sym, ◌∙◌, ap}
-use Rattle.hb_tree.specs.Tree.{loose}
+use Rattle.std.proofs.Common.{◌≡◌, Some, slice_get, arith, sym, ◌∙◌, ap}
 use Rattle.hb_term.specs.Meaning.{tree}
 use Rattle.hb_calculus.specs.Telescopes.{type_in}
 use Rattle.hb_calculus.specs.Inference.{infers_constant}

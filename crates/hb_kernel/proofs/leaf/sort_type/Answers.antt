@@ -1,4 +1,4 @@
-use Rattle.std.proofs.Common.{rules, ap}
+use Rattle.std.proofs.Common.{ap}
 use Rattle.hb_term.specs.Meaning.{tree}
 use Rattle.hb_kernel.specs.Contexts.{types}
 use Rattle.hb_kernel.proofs.LeafLemmas.{too-high, prop-type, level-type}

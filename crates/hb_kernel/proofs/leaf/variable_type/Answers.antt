@@ -1,5 +1,5 @@
-use Rattle.std.proofs.Common.{◌≡◌, ◌+◌, ◌≤◌, ◌<◌, length, Some, slice_get, rules, arith, sym, ◌∙◌, ap, subst}
-use Rattle.hb_tree.specs.Tree.{loose, lift}
+use Rattle.std.proofs.Common.{◌+◌, arith, sym, ◌∙◌, ap}
+use Rattle.hb_tree.specs.Tree.{loose}
 use Rattle.hb_tree.proofs.Sizes.{loose_lift}
 use Rattle.hb_term.specs.Meaning.{tree}
 use Rattle.hb_calculus.specs.Inference.{infers_variable}

@@ -1,4 +1,4 @@
-use Rattle.std.proofs.Common.{rules, sym, ◌∙◌, take, ◌++◌}
+use Rattle.std.proofs.Common.{rules, take, ◌++◌}
 use Rattle.std.specs.Prelude.{IsTrue}
 use Rattle.hb_calculus.specs.Declarations.{names, names_of, IsIn}
 use Rattle.hb_env.specs.Plain.{plain}

@@ -1,4 +1,4 @@
-use Rattle.std.proofs.Common.{refl, ap, sym, ◌∙◌}
+use Rattle.std.proofs.Common.{refl, ap}
 use Rattle.hb_term.specs.Meaning.{tree}
 use Rattle.hb_calculus.specs.Budget.{budget}
 use Rattle.hb_env.specs.Plain.{plain}
