@@ -8,14 +8,17 @@ const MIXIN: Form = Form::Record {
     level: 0,
     params: 1,
 };
+
 const MIXIN_OVER_1: Form = Form::Record {
     level: 0,
     params: 2,
 };
+
 const MIXIN_OVER_2: Form = Form::Record {
     level: 0,
     params: 3,
 };
+
 const PACKED: Form = Form::Record {
     level: 1,
     params: 0,
@@ -25,13 +28,22 @@ const PACKED: Form = Form::Record {
 /// mixins and a packed record, with their operations and coercions; and natural numbers.
 const LIBRARY: [Line; 30] = [
     // 0 eq, 1 refl
-    Line(Form::Def, "> T0 > v0 > v1 P  \\ T0 \\ v0 \\ v1 > > v2 P > @ v0 v2 @ v1 v2"),
-    Line(Form::Def, "> T0 > v0 @ @ @ c0 v1 v0 v0  \\ T0 \\ v0 \\ > v1 P \\ @ v0 v1 v0"),
+    Line(
+        Form::Def,
+        "> T0 > v0 > v1 P  \\ T0 \\ v0 \\ v1 > > v2 P > @ v0 v2 @ v1 v2",
+    ),
+    Line(
+        Form::Def,
+        "> T0 > v0 @ @ @ c0 v1 v0 v0  \\ T0 \\ v0 \\ > v1 P \\ @ v0 v1 v0",
+    ),
     // 2 IsMag, 3 its class, 4 its structure, 5 op
     Line(MIXIN, "T0  > v0 > v1 v2"),
     Line(MIXIN, "T0  @ c2 v0"),
     Line(PACKED, "T0  @ c3 v0"),
-    Line(Form::Def, "> c4 > p4.0 v0 > p4.0 v1 p4.0 v2  \\ c4 p2.0 p3.0 p4.1 v0"),
+    Line(
+        Form::Def,
+        "> c4 > p4.0 v0 > p4.0 v1 p4.0 v2  \\ c4 p2.0 p3.0 p4.1 v0",
+    ),
     // 6 IsSemigroup over a magma, 7 its class, 8 its structure
     Line(
         MIXIN_OVER_1,
@@ -40,7 +52,10 @@ const LIBRARY: [Line; 30] = [
     Line(MIXIN, "T0  @ c2 v0  @ @ c6 v1 v0"),
     Line(PACKED, "T0  @ c7 v0"),
     // 9 from semigroups to magmas, 10 associativity by the operation of magmas
-    Line(Form::Def, "> c8 c4  \\ c8 @ @ m4 p8.0 v0 @ @ m3 p8.0 v0 p7.0 p8.1 v0"),
+    Line(
+        Form::Def,
+        "> c8 c4  \\ c8 @ @ m4 p8.0 v0 @ @ m3 p8.0 v0 p7.0 p8.1 v0",
+    ),
     Line(
         Form::Def,
         "> c8 > p8.0 v0 > p8.0 v1 > p8.0 v2 @ @ @ c0 p8.0 v3 @ @ @ c5 @ c9 v3 v2 @ @ @ c5 @ c9 v3 v1 v0 @ @ @ c5 @ c9 v3 @ @ @ c5 @ c9 v3 v2 v1 v0  \\ c8 p6.0 p7.1 p8.1 v0",
@@ -55,15 +70,24 @@ const LIBRARY: [Line; 30] = [
         MIXIN_OVER_2,
         "T0 @ c2 v0 @ c11 v1  > v2 @ @ @ c0 v3 @ @ p2.0 v2 p11.0 v1 v0 v0  > v3 @ @ @ c0 v4 @ @ p2.0 v3 v0 p11.0 v2 v0",
     ),
-    Line(MIXIN, "T0  @ c2 v0  @ @ c6 v1 v0  @ c11 v2  @ @ @ c15 v3 v2 v0"),
+    Line(
+        MIXIN,
+        "T0  @ c2 v0  @ @ c6 v1 v0  @ c11 v2  @ @ @ c15 v3 v2 v0",
+    ),
     Line(PACKED, "T0  @ c16 v0"),
     // 18 from monoids to semigroups, 19 to pointed types, 20 to magmas
     Line(
         Form::Def,
         "> c17 c8  \\ c17 @ @ m8 p17.0 v0 @ @ @ m7 p17.0 v0 p16.0 p17.1 v0 p16.1 p17.1 v0",
     ),
-    Line(Form::Def, "> c17 c13  \\ c17 @ @ m13 p17.0 v0 @ @ m12 p17.0 v0 p16.2 p17.1 v0"),
-    Line(Form::Def, "> c17 c4  \\ c17 @ @ m4 p17.0 v0 @ @ m3 p17.0 v0 p16.0 p17.1 v0"),
+    Line(
+        Form::Def,
+        "> c17 c13  \\ c17 @ @ m13 p17.0 v0 @ @ m12 p17.0 v0 p16.2 p17.1 v0",
+    ),
+    Line(
+        Form::Def,
+        "> c17 c4  \\ c17 @ @ m4 p17.0 v0 @ @ m3 p17.0 v0 p16.0 p17.1 v0",
+    ),
     // 21 nat, 22 zero, 23 add, 24 its associativity
     Line(Form::Axiom, "T0"),
     Line(Form::Axiom, "c21"),
@@ -87,7 +111,10 @@ const CHANGES: [Change; 10] = [
     // the proof of reflexivity hands on the property and not its proof
     Change(
         1,
-        Line(Form::Def, "> T0 > v0 @ @ @ c0 v1 v0 v0  \\ T0 \\ v0 \\ > v1 P \\ @ v0 v1 v1"),
+        Line(
+            Form::Def,
+            "> T0 > v0 @ @ @ c0 v1 v0 v0  \\ T0 \\ v0 \\ > v1 P \\ @ v0 v1 v1",
+        ),
         Want::NotConvertible(
             0,
             "> T0 > v0 > > v1 P > @ v0 v1 > v3 P",
@@ -95,20 +122,46 @@ const CHANGES: [Change; 10] = [
         ),
     ),
     // a level one above the least, and one below
-    Change(2, Line(Form::Record { level: 1, params: 1 }, "T0  > v0 > v1 v2"), Want::NotConvertible(0, "T0", "T1")),
-    Change(4, Line(Form::Record { level: 0, params: 0 }, "T0  @ c3 v0"), Want::NotConvertible(0, "T1", "T0")),
+    Change(
+        2,
+        Line(
+            Form::Record {
+                level: 1,
+                params: 1,
+            },
+            "T0  > v0 > v1 v2",
+        ),
+        Want::NotConvertible(0, "T0", "T1"),
+    ),
+    Change(
+        4,
+        Line(
+            Form::Record {
+                level: 0,
+                params: 0,
+            },
+            "T0  @ c3 v0",
+        ),
+        Want::NotConvertible(0, "T1", "T0"),
+    ),
     // the class is not applied to the carrier
     Change(4, Line(PACKED, "T0  c3"), Want::NotSort(1, "> T0 T0")),
     // the operation of the class and not of its mixin
     Change(
         5,
-        Line(Form::Def, "> c4 > p4.0 v0 > p4.0 v1 p4.0 v2  \\ c4 p2.0 p4.1 v0"),
+        Line(
+            Form::Def,
+            "> c4 > p4.0 v0 > p4.0 v1 p4.0 v2  \\ c4 p2.0 p4.1 v0",
+        ),
         Want::NotRecord(1, "@ c3 p4.0 v0"),
     ),
     // no magma: its operation is asked of the carrier
     Change(
         6,
-        Line(MIXIN, "T0  > v0 > v1 > v2 @ @ @ c0 v3 @ @ p2.0 v3 v2 @ @ p2.0 v3 v1 v0 v0"),
+        Line(
+            MIXIN,
+            "T0  > v0 > v1 > v2 @ @ @ c0 v3 @ @ p2.0 v3 v2 @ @ p2.0 v3 v1 v0 v0",
+        ),
         Want::NotRecord(4, "T0"),
     ),
     // the class of semigroups for that of magmas
@@ -120,11 +173,18 @@ const CHANGES: [Change; 10] = [
     // two mixins exchanged
     Change(
         16,
-        Line(MIXIN, "T0  @ c2 v0  @ @ c6 v1 v0  @ c11 v2  @ @ @ c15 v3 v0 v2"),
+        Line(
+            MIXIN,
+            "T0  @ c2 v0  @ @ c6 v1 v0  @ c11 v2  @ @ @ c15 v3 v0 v2",
+        ),
         Want::NotConvertible(4, "@ c11 v3", "@ c2 v3"),
     ),
     // zero for the operation
-    Change(25, Line(Form::Def, "@ c2 c21  @ @ m2 c21 c22"), Want::NotConvertible(0, "c21", "> c21 > c21 c21")),
+    Change(
+        25,
+        Line(Form::Def, "@ c2 c21  @ @ m2 c21 c22"),
+        Want::NotConvertible(0, "c21", "> c21 > c21 c21"),
+    ),
     // the operation for its associativity, whose wanted type is kept in normal form
     Change(
         26,
@@ -148,8 +208,17 @@ fn the_library_is_accepted(rt: HostRuntime) -> Result<(), Fail> {
 fn each_change_is_refused(rt: HostRuntime) -> Result<(), Fail> {
     let alloc = rt.alloc();
     for Change(place, line, want) in &CHANGES {
-        let mut theory = accepted(alloc, LIBRARY.get(..*place).ok_or("place")?).map_err(|_e| "refused")?;
-        let right = is_refused(alloc, &mut theory, name_at(*place), *line, &Limits::DEFAULT, *want)?;
+        let mut theory = accepted(alloc, LIBRARY.get(..*place).ok_or("place")?).map_err(
+            |_e| "refused",
+        )?;
+        let right = is_refused(
+            alloc,
+            &mut theory,
+            name_at(*place),
+            *line,
+            &Limits::DEFAULT,
+            *want,
+        )?;
         assert!(rt; right);
     }
     Ok(())

@@ -21,8 +21,20 @@ const BASE: [Line; 12] = [
     Line(Form::Axiom, "> c0 P"),
     Line(Form::Def, "> c0 P  \\ c0 @ c3 v0"),
     // 5 a point of a type, 6 a type with a point
-    Line(Form::Record { level: 0, params: 1 }, "T0  v0"),
-    Line(Form::Record { level: 1, params: 0 }, "T0  v0"),
+    Line(
+        Form::Record {
+            level: 0,
+            params: 1,
+        },
+        "T0  v0",
+    ),
+    Line(
+        Form::Record {
+            level: 1,
+            params: 0,
+        },
+        "T0  v0",
+    ),
     // 7 zero as a point, 8 the identity
     Line(Form::Def, "@ c5 c0  @ @ m5 c0 c1"),
     Line(Form::Def, "> T0 > v0 v1  \\ T0 \\ v0 v0"),
@@ -41,11 +53,13 @@ const NO_STEP: Limits = Limits {
     nodes: 1_000,
     depth: 100,
 };
+
 const TWO_NODES: Limits = Limits {
     steps: 1_000,
     nodes: 2,
     depth: 100,
 };
+
 const FLAT: Limits = Limits {
     steps: 1_000,
     nodes: 1_000,
@@ -57,28 +71,109 @@ struct Row(u16, Line, Limits, Want);
 
 const BEFORE_THE_ASKS: [Row; 17] = [
     // the name of nat; the maker's name of the first record, also where nothing else is right
-    Row(0, Line(Form::Axiom, "T0"), Limits::DEFAULT, Want::Redeclared(0)),
-    Row(40, Line(Form::Axiom, "c99"), TWO_NODES, Want::Redeclared(40)),
-    Row(39, Line(PLAIN, "c99"), Limits::DEFAULT, Want::Redeclared(40)),
+    Row(
+        0,
+        Line(Form::Axiom, "T0"),
+        Limits::DEFAULT,
+        Want::Redeclared(0),
+    ),
+    Row(
+        40,
+        Line(Form::Axiom, "c99"),
+        TWO_NODES,
+        Want::Redeclared(40),
+    ),
+    Row(
+        39,
+        Line(PLAIN, "c99"),
+        Limits::DEFAULT,
+        Want::Redeclared(40),
+    ),
     // a variable, a constant, a maker, a record, a field that is not declared, and a hole
-    Row(FREE, Line(Form::Axiom, "v0"), Limits::DEFAULT, Want::Unscoped),
-    Row(FREE, Line(Form::Axiom, "> c0 v1"), Limits::DEFAULT, Want::Unscoped),
-    Row(FREE, Line(Form::Axiom, "c12"), Limits::DEFAULT, Want::Unscoped),
-    Row(FREE, Line(Form::Axiom, "m0"), Limits::DEFAULT, Want::Unscoped),
-    Row(FREE, Line(Form::Axiom, "p0.0 c7"), Limits::DEFAULT, Want::Unscoped),
-    Row(FREE, Line(Form::Axiom, "p5.1 c7"), Limits::DEFAULT, Want::Unscoped),
-    Row(FREE, Line(Form::Axiom, "> c0 ?"), Limits::DEFAULT, Want::Unscoped),
-    // in a body, in a field that names itself, and in a term that is too large or without a type
-    Row(FREE, Line(Form::Def, "c0  v0"), Limits::DEFAULT, Want::Unscoped),
-    Row(FREE, Line(PLAIN, "T0  v1"), Limits::DEFAULT, Want::Unscoped),
-    Row(FREE, Line(Form::Def, "> c1 c1  c12"), TWO_NODES, Want::Unscoped),
-    // the first term that is too large, before an ask that fails
-    Row(FREE, Line(Form::Axiom, "> c1 c1"), TWO_NODES, Want::Spent(0, "> c1 c1")),
-    Row(FREE, Line(Form::Axiom, "@ c2 c1"), FLAT, Want::Spent(0, "@ c2 c1")),
-    Row(FREE, Line(Form::Def, "c1  @ c2 c1"), TWO_NODES, Want::Spent(0, "@ c2 c1")),
     Row(
         FREE,
-        Line(Form::Record { level: 0, params: 1 }, "c1  P  > v0 v2  > c0 c0"),
+        Line(Form::Axiom, "v0"),
+        Limits::DEFAULT,
+        Want::Unscoped,
+    ),
+    Row(
+        FREE,
+        Line(Form::Axiom, "> c0 v1"),
+        Limits::DEFAULT,
+        Want::Unscoped,
+    ),
+    Row(
+        FREE,
+        Line(Form::Axiom, "c12"),
+        Limits::DEFAULT,
+        Want::Unscoped,
+    ),
+    Row(
+        FREE,
+        Line(Form::Axiom, "m0"),
+        Limits::DEFAULT,
+        Want::Unscoped,
+    ),
+    Row(
+        FREE,
+        Line(Form::Axiom, "p0.0 c7"),
+        Limits::DEFAULT,
+        Want::Unscoped,
+    ),
+    Row(
+        FREE,
+        Line(Form::Axiom, "p5.1 c7"),
+        Limits::DEFAULT,
+        Want::Unscoped,
+    ),
+    Row(
+        FREE,
+        Line(Form::Axiom, "> c0 ?"),
+        Limits::DEFAULT,
+        Want::Unscoped,
+    ),
+    // in a body, in a field that names itself, and in a term that is too large or without a type
+    Row(
+        FREE,
+        Line(Form::Def, "c0  v0"),
+        Limits::DEFAULT,
+        Want::Unscoped,
+    ),
+    Row(FREE, Line(PLAIN, "T0  v1"), Limits::DEFAULT, Want::Unscoped),
+    Row(
+        FREE,
+        Line(Form::Def, "> c1 c1  c12"),
+        TWO_NODES,
+        Want::Unscoped,
+    ),
+    // the first term that is too large, before an ask that fails
+    Row(
+        FREE,
+        Line(Form::Axiom, "> c1 c1"),
+        TWO_NODES,
+        Want::Spent(0, "> c1 c1"),
+    ),
+    Row(
+        FREE,
+        Line(Form::Axiom, "@ c2 c1"),
+        FLAT,
+        Want::Spent(0, "@ c2 c1"),
+    ),
+    Row(
+        FREE,
+        Line(Form::Def, "c1  @ c2 c1"),
+        TWO_NODES,
+        Want::Spent(0, "@ c2 c1"),
+    ),
+    Row(
+        FREE,
+        Line(
+            Form::Record {
+                level: 0,
+                params: 1,
+            },
+            "c1  P  > v0 v2  > c0 c0",
+        ),
         TWO_NODES,
         Want::Spent(2, "> v0 v2"),
     ),
@@ -86,47 +181,211 @@ const BEFORE_THE_ASKS: [Row; 17] = [
 
 const ASKS: [Row; 29] = [
     // a form: the type of a type is no sort, and is kept as its weak head form
-    Row(FREE, Line(Form::Axiom, "c1"), Limits::DEFAULT, Want::NotSort(0, "c0")),
-    Row(FREE, Line(Form::Axiom, "c10"), Limits::DEFAULT, Want::NotSort(0, "c0")),
-    Row(FREE, Line(Form::Axiom, "> c1 P"), Limits::DEFAULT, Want::NotSort(0, "c0")),
-    Row(FREE, Line(Form::Axiom, "> c0 v0"), Limits::DEFAULT, Want::NotSort(1, "c0")),
-    Row(FREE, Line(Form::Axiom, "c10"), NO_STEP, Want::Spent(0, "c9")),
-    // what is applied is no function; its form is asked before anything of the argument
-    Row(FREE, Line(Form::Axiom, "@ c1 c1"), Limits::DEFAULT, Want::NotFunction(0, "c0")),
-    Row(FREE, Line(Form::Axiom, "@ c10 c1"), Limits::DEFAULT, Want::NotFunction(0, "c0")),
-    Row(FREE, Line(Form::Axiom, "@ @ c3 c1 @ c1 c1"), Limits::DEFAULT, Want::NotFunction(0, "P")),
-    Row(FREE, Line(Form::Def, "> c0 c0  \\ c0 @ v0 v0"), Limits::DEFAULT, Want::NotFunction(1, "c0")),
-    // what is projected is no record, or another one
-    Row(FREE, Line(Form::Axiom, "p5.0 c1"), Limits::DEFAULT, Want::NotRecord(0, "c0")),
-    Row(FREE, Line(Form::Axiom, "p6.0 c7"), Limits::DEFAULT, Want::NotRecord(0, "@ c5 c0")),
-    Row(FREE, Line(Form::Axiom, "p5.0 @ m5 c0"), Limits::DEFAULT, Want::NotRecord(0, "> c0 @ c5 c0")),
-    // an argument against the domain, with the normal forms of both
-    Row(FREE, Line(Form::Axiom, "@ c3 c3"), Limits::DEFAULT, Want::NotConvertible(0, "> c0 P", "c0")),
-    Row(FREE, Line(Form::Axiom, "@ c11 c3"), Limits::DEFAULT, Want::NotConvertible(0, "> c0 P", "c0")),
-    Row(FREE, Line(Form::Axiom, "@ c11 c3"), NO_STEP, Want::Spent(0, "c9")),
-    Row(FREE, Line(Form::Axiom, "> c0 @ c3 c3"), Limits::DEFAULT, Want::NotConvertible(1, "> c0 P", "c0")),
-    // the type of a definition is asked before its body, and then compared with that of the body
-    Row(FREE, Line(Form::Def, "c1  @ c1 c1"), Limits::DEFAULT, Want::NotSort(0, "c0")),
-    Row(FREE, Line(Form::Def, "c0  @ @ c3 c1 c1"), Limits::DEFAULT, Want::NotFunction(0, "P")),
-    Row(FREE, Line(Form::Def, "c0  c3"), Limits::DEFAULT, Want::NotConvertible(0, "> c0 P", "c0")),
-    Row(FREE, Line(Form::Def, "c9  c3"), Limits::DEFAULT, Want::NotConvertible(0, "> c0 P", "c0")),
-    Row(FREE, Line(Form::Def, "P  c0"), Limits::DEFAULT, Want::NotConvertible(0, "T0", "P")),
-    // a parameter, a field under it, and a second field that names the first
-    Row(FREE, Line(Form::Record { level: 0, params: 1 }, "c1  P"), Limits::DEFAULT, Want::NotSort(0, "c0")),
-    Row(FREE, Line(Form::Record { level: 0, params: 1 }, "T0  c1"), Limits::DEFAULT, Want::NotSort(1, "c0")),
-    Row(FREE, Line(PLAIN, "c0  v0"), Limits::DEFAULT, Want::NotSort(1, "c0")),
-    // the level: one too small, one too great, and one without fields
-    Row(FREE, Line(PLAIN, "T0"), Limits::DEFAULT, Want::NotConvertible(0, "T1", "T0")),
     Row(
         FREE,
-        Line(Form::Record { level: 1, params: 0 }, "c0  @ c3 v0"),
+        Line(Form::Axiom, "c1"),
+        Limits::DEFAULT,
+        Want::NotSort(0, "c0"),
+    ),
+    Row(
+        FREE,
+        Line(Form::Axiom, "c10"),
+        Limits::DEFAULT,
+        Want::NotSort(0, "c0"),
+    ),
+    Row(
+        FREE,
+        Line(Form::Axiom, "> c1 P"),
+        Limits::DEFAULT,
+        Want::NotSort(0, "c0"),
+    ),
+    Row(
+        FREE,
+        Line(Form::Axiom, "> c0 v0"),
+        Limits::DEFAULT,
+        Want::NotSort(1, "c0"),
+    ),
+    Row(
+        FREE,
+        Line(Form::Axiom, "c10"),
+        NO_STEP,
+        Want::Spent(0, "c9"),
+    ),
+    // what is applied is no function; its form is asked before anything of the argument
+    Row(
+        FREE,
+        Line(Form::Axiom, "@ c1 c1"),
+        Limits::DEFAULT,
+        Want::NotFunction(0, "c0"),
+    ),
+    Row(
+        FREE,
+        Line(Form::Axiom, "@ c10 c1"),
+        Limits::DEFAULT,
+        Want::NotFunction(0, "c0"),
+    ),
+    Row(
+        FREE,
+        Line(Form::Axiom, "@ @ c3 c1 @ c1 c1"),
+        Limits::DEFAULT,
+        Want::NotFunction(0, "P"),
+    ),
+    Row(
+        FREE,
+        Line(Form::Def, "> c0 c0  \\ c0 @ v0 v0"),
+        Limits::DEFAULT,
+        Want::NotFunction(1, "c0"),
+    ),
+    // what is projected is no record, or another one
+    Row(
+        FREE,
+        Line(Form::Axiom, "p5.0 c1"),
+        Limits::DEFAULT,
+        Want::NotRecord(0, "c0"),
+    ),
+    Row(
+        FREE,
+        Line(Form::Axiom, "p6.0 c7"),
+        Limits::DEFAULT,
+        Want::NotRecord(0, "@ c5 c0"),
+    ),
+    Row(
+        FREE,
+        Line(Form::Axiom, "p5.0 @ m5 c0"),
+        Limits::DEFAULT,
+        Want::NotRecord(0, "> c0 @ c5 c0"),
+    ),
+    // an argument against the domain, with the normal forms of both
+    Row(
+        FREE,
+        Line(Form::Axiom, "@ c3 c3"),
+        Limits::DEFAULT,
+        Want::NotConvertible(0, "> c0 P", "c0"),
+    ),
+    Row(
+        FREE,
+        Line(Form::Axiom, "@ c11 c3"),
+        Limits::DEFAULT,
+        Want::NotConvertible(0, "> c0 P", "c0"),
+    ),
+    Row(
+        FREE,
+        Line(Form::Axiom, "@ c11 c3"),
+        NO_STEP,
+        Want::Spent(0, "c9"),
+    ),
+    Row(
+        FREE,
+        Line(Form::Axiom, "> c0 @ c3 c3"),
+        Limits::DEFAULT,
+        Want::NotConvertible(1, "> c0 P", "c0"),
+    ),
+    // the type of a definition is asked before its body, and then compared with that of the body
+    Row(
+        FREE,
+        Line(Form::Def, "c1  @ c1 c1"),
+        Limits::DEFAULT,
+        Want::NotSort(0, "c0"),
+    ),
+    Row(
+        FREE,
+        Line(Form::Def, "c0  @ @ c3 c1 c1"),
+        Limits::DEFAULT,
+        Want::NotFunction(0, "P"),
+    ),
+    Row(
+        FREE,
+        Line(Form::Def, "c0  c3"),
+        Limits::DEFAULT,
+        Want::NotConvertible(0, "> c0 P", "c0"),
+    ),
+    Row(
+        FREE,
+        Line(Form::Def, "c9  c3"),
+        Limits::DEFAULT,
+        Want::NotConvertible(0, "> c0 P", "c0"),
+    ),
+    Row(
+        FREE,
+        Line(Form::Def, "P  c0"),
+        Limits::DEFAULT,
+        Want::NotConvertible(0, "T0", "P"),
+    ),
+    // a parameter, a field under it, and a second field that names the first
+    Row(
+        FREE,
+        Line(
+            Form::Record {
+                level: 0,
+                params: 1,
+            },
+            "c1  P",
+        ),
+        Limits::DEFAULT,
+        Want::NotSort(0, "c0"),
+    ),
+    Row(
+        FREE,
+        Line(
+            Form::Record {
+                level: 0,
+                params: 1,
+            },
+            "T0  c1",
+        ),
+        Limits::DEFAULT,
+        Want::NotSort(1, "c0"),
+    ),
+    Row(
+        FREE,
+        Line(PLAIN, "c0  v0"),
+        Limits::DEFAULT,
+        Want::NotSort(1, "c0"),
+    ),
+    // the level: one too small, one too great, and one without fields
+    Row(
+        FREE,
+        Line(PLAIN, "T0"),
+        Limits::DEFAULT,
+        Want::NotConvertible(0, "T1", "T0"),
+    ),
+    Row(
+        FREE,
+        Line(
+            Form::Record {
+                level: 1,
+                params: 0,
+            },
+            "c0  @ c3 v0",
+        ),
         Limits::DEFAULT,
         Want::NotConvertible(0, "T0", "T1"),
     ),
-    Row(FREE, Line(Form::Record { level: 1, params: 0 }, ""), Limits::DEFAULT, Want::NotConvertible(0, "T0", "T1")),
+    Row(
+        FREE,
+        Line(
+            Form::Record {
+                level: 1,
+                params: 0,
+            },
+            "",
+        ),
+        Limits::DEFAULT,
+        Want::NotConvertible(0, "T0", "T1"),
+    ),
     // no sort is above the last level
-    Row(FREE, Line(Form::Axiom, "T63"), Limits::DEFAULT, Want::LevelTooHigh),
-    Row(FREE, Line(Form::Def, "T0  > c0 T64"), Limits::DEFAULT, Want::LevelTooHigh),
+    Row(
+        FREE,
+        Line(Form::Axiom, "T63"),
+        Limits::DEFAULT,
+        Want::LevelTooHigh,
+    ),
+    Row(
+        FREE,
+        Line(Form::Def, "T0  > c0 T64"),
+        Limits::DEFAULT,
+        Want::LevelTooHigh,
+    ),
 ];
 
 #[test]
@@ -155,7 +414,10 @@ fn each_ask_is_refused(rt: HostRuntime) -> Result<(), Fail> {
 fn wide(alloc: Global, ty: &str, count: u16) -> Result<Decl, AllocError> {
     let mut fields = Vec::new(alloc);
     for at in 0..count {
-        fields.push((NameId(FREE.saturating_add(2).saturating_add(at)), term(alloc, ty)?))?;
+        fields.push((
+            NameId(FREE.saturating_add(2).saturating_add(at)),
+            term(alloc, ty)?,
+        ))?;
     }
     Ok(Decl::Record {
         name: NameId(FREE),
@@ -180,6 +442,10 @@ fn a_count_is_asked_last(rt: HostRuntime) -> Result<(), Fail> {
         return Err("accepted".into());
     };
     assert!(rt; is_wanted(alloc, &refused, Want::NotConvertible(0, "T1", "T0"))?);
-    assert!(rt; theory.add(wide(alloc, "c0", 255)?, &Limits::DEFAULT).is_ok());
+    assert!(rt;
+        theory
+            .add(wide(alloc, "c0", 255)?, &Limits::DEFAULT)
+            .is_ok()
+    );
     Ok(())
 }

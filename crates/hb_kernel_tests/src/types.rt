@@ -8,8 +8,20 @@ use std::test::*;
 
 /// A point of a type; a type as a record; a value of that record.
 const LINES: [Line; 3] = [
-    Line(Form::Record { level: 0, params: 1 }, "T0  v0"),
-    Line(Form::Record { level: 1, params: 0 }, "T0"),
+    Line(
+        Form::Record {
+            level: 0,
+            params: 1,
+        },
+        "T0  v0",
+    ),
+    Line(
+        Form::Record {
+            level: 1,
+            params: 0,
+        },
+        "T0",
+    ),
     Line(Form::Axiom, "c1"),
 ];
 
@@ -23,7 +35,10 @@ const TYPES: [(&str, &str); 9] = [
     ("p1.0 c2", "T0"),
     ("> c1 > p1.0 v0 P", "T1"),
     ("\\ T0 \\ v0 v0", "> T0 > v0 v1"),
-    ("\\ c1 \\ @ c0 p1.0 v0 p0.0 v0", "> c1 > @ c0 p1.0 v0 p1.0 v1"),
+    (
+        "\\ c1 \\ @ c0 p1.0 v0 p0.0 v0",
+        "> c1 > @ c0 p1.0 v0 p1.0 v1",
+    ),
 ];
 
 #[test]
@@ -32,7 +47,9 @@ fn types_are_inferred(rt: HostRuntime) -> Result<(), Fail> {
     let theory = accepted(alloc, &LINES).map_err(|_e| "refused")?;
     for (text, ty) in &TYPES {
         let t = scoped(alloc, text, 0)?;
-        let inferred = theory.infer(&[], &t, &Limits::DEFAULT).map_err(|_e| "refused")?;
+        let inferred = theory
+            .infer(&[], &t, &Limits::DEFAULT)
+            .map_err(|_e| "refused")?;
         let wanted = term(alloc, ty)?;
         assert!(rt; inferred.term().same(&wanted) && inferred.depth() == 0);
     }

@@ -63,7 +63,9 @@ pub(crate) fn is_wanted(
         (KernelRefused::Unscoped, Want::Unscoped) => Ok(true),
         (KernelRefused::LevelTooHigh, Want::LevelTooHigh) => Ok(true),
         (KernelRefused::TooMany(count), Want::TooMany(wanted)) => Ok(*count == wanted),
-        (KernelRefused::NotFunction(w), Want::NotFunction(depth, text)) => keeps(alloc, w, depth, text),
+        (KernelRefused::NotFunction(w), Want::NotFunction(depth, text)) => keeps(
+            alloc, w, depth, text,
+        ),
         (KernelRefused::NotSort(w), Want::NotSort(depth, text)) => keeps(alloc, w, depth, text),
         (KernelRefused::NotRecord(w), Want::NotRecord(depth, text)) => keeps(alloc, w, depth, text),
         (KernelRefused::Spent(t), Want::Spent(depth, text)) => keeps(alloc, t, depth, text),
