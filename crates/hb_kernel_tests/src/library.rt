@@ -1,5 +1,5 @@
 //! A small library in the style of packed classes, and changes to it that are refused.
-use crate::want::{Want, accepted, is_refused, name_at};
+use crate::want::{Kind, Want, accepted, is_refused, name_at};
 use crate::write::{Form, Line};
 use hb_base::Limits;
 use std::test::*;
@@ -115,10 +115,13 @@ const CHANGES: [Change; 10] = [
             Form::Def,
             "> T0 > v0 @ @ @ c0 v1 v0 v0  \\ T0 \\ v0 \\ > v1 P \\ @ v0 v1 v1",
         ),
-        Want::NotConvertible(
+        Want(
+            Kind::NotConvertible,
             0,
-            "> T0 > v0 > > v1 P > @ v0 v1 > v3 P",
-            "> T0 > v0 > > v1 P > @ v0 v1 @ v1 v2",
+            &[
+                "> T0 > v0 > > v1 P > @ v0 v1 > v3 P",
+                "> T0 > v0 > > v1 P > @ v0 v1 @ v1 v2",
+            ],
         ),
     ),
     // a level one above the least, and one below
@@ -131,7 +134,7 @@ const CHANGES: [Change; 10] = [
             },
             "T0  > v0 > v1 v2",
         ),
-        Want::NotConvertible(0, "T0", "T1"),
+        Want(Kind::NotConvertible, 0, &["T0", "T1"]),
     ),
     Change(
         4,
@@ -142,10 +145,14 @@ const CHANGES: [Change; 10] = [
             },
             "T0  @ c3 v0",
         ),
-        Want::NotConvertible(0, "T1", "T0"),
+        Want(Kind::NotConvertible, 0, &["T1", "T0"]),
     ),
     // the class is not applied to the carrier
-    Change(4, Line(PACKED, "T0  c3"), Want::NotSort(1, "> T0 T0")),
+    Change(
+        4,
+        Line(PACKED, "T0  c3"),
+        Want(Kind::NotSort, 1, &["> T0 T0"]),
+    ),
     // the operation of the class and not of its mixin
     Change(
         5,
@@ -153,7 +160,7 @@ const CHANGES: [Change; 10] = [
             Form::Def,
             "> c4 > p4.0 v0 > p4.0 v1 p4.0 v2  \\ c4 p2.0 p4.1 v0",
         ),
-        Want::NotRecord(1, "@ c3 p4.0 v0"),
+        Want(Kind::NotRecord, 1, &["@ c3 p4.0 v0"]),
     ),
     // no magma: its operation is asked of the carrier
     Change(
@@ -162,13 +169,13 @@ const CHANGES: [Change; 10] = [
             MIXIN,
             "T0  > v0 > v1 > v2 @ @ @ c0 v3 @ @ p2.0 v3 v2 @ @ p2.0 v3 v1 v0 v0",
         ),
-        Want::NotRecord(4, "T0"),
+        Want(Kind::NotRecord, 4, &["T0"]),
     ),
     // the class of semigroups for that of magmas
     Change(
         9,
         Line(Form::Def, "> c8 c4  \\ c8 @ @ m4 p8.0 v0 p8.1 v0"),
-        Want::NotConvertible(1, "@ c7 p8.0 v0", "@ c3 p8.0 v0"),
+        Want(Kind::NotConvertible, 1, &["@ c7 p8.0 v0", "@ c3 p8.0 v0"]),
     ),
     // two mixins exchanged
     Change(
@@ -177,22 +184,25 @@ const CHANGES: [Change; 10] = [
             MIXIN,
             "T0  @ c2 v0  @ @ c6 v1 v0  @ c11 v2  @ @ @ c15 v3 v0 v2",
         ),
-        Want::NotConvertible(4, "@ c11 v3", "@ c2 v3"),
+        Want(Kind::NotConvertible, 4, &["@ c11 v3", "@ c2 v3"]),
     ),
     // zero for the operation
     Change(
         25,
         Line(Form::Def, "@ c2 c21  @ @ m2 c21 c22"),
-        Want::NotConvertible(0, "c21", "> c21 > c21 c21"),
+        Want(Kind::NotConvertible, 0, &["c21", "> c21 > c21 c21"]),
     ),
     // the operation for its associativity, whose wanted type is kept in normal form
     Change(
         26,
         Line(Form::Def, "@ @ c6 c21 c25  @ @ @ m6 c21 c25 c23"),
-        Want::NotConvertible(
+        Want(
+            Kind::NotConvertible,
             0,
-            "> c21 > c21 c21",
-            "> c21 > c21 > c21 > > c21 P > @ v0 @ @ c23 v3 @ @ c23 v2 v1 @ v1 @ @ c23 @ @ c23 v4 v3 v2",
+            &[
+                "> c21 > c21 c21",
+                "> c21 > c21 > c21 > > c21 P > @ v0 @ @ c23 v3 @ @ c23 v2 v1 @ v1 @ @ c23 @ @ c23 v4 v3 v2",
+            ],
         ),
     ),
 ];

@@ -1,5 +1,5 @@
 //! One declaration for each refusal and each kind of ask.
-use crate::want::{Want, accepted, is_refused, is_wanted};
+use crate::want::{Kind, Want, accepted, is_outcome, is_refused};
 use crate::write::{Form, Line, term};
 use hb_base::{Count, Limits, NameId};
 use hb_env::Decl;
@@ -75,95 +75,100 @@ const BEFORE_THE_ASKS: [Row; 17] = [
         0,
         Line(Form::Axiom, "T0"),
         Limits::DEFAULT,
-        Want::Redeclared(0),
+        Want(Kind::Redeclared(0), 0, &[]),
     ),
     Row(
         40,
         Line(Form::Axiom, "c99"),
         TWO_NODES,
-        Want::Redeclared(40),
+        Want(Kind::Redeclared(40), 0, &[]),
     ),
     Row(
         39,
         Line(PLAIN, "c99"),
         Limits::DEFAULT,
-        Want::Redeclared(40),
+        Want(Kind::Redeclared(40), 0, &[]),
     ),
     // a variable, a constant, a maker, a record, a field that is not declared, and a hole
     Row(
         FREE,
         Line(Form::Axiom, "v0"),
         Limits::DEFAULT,
-        Want::Unscoped,
+        Want(Kind::Unscoped, 0, &[]),
     ),
     Row(
         FREE,
         Line(Form::Axiom, "> c0 v1"),
         Limits::DEFAULT,
-        Want::Unscoped,
+        Want(Kind::Unscoped, 0, &[]),
     ),
     Row(
         FREE,
         Line(Form::Axiom, "c12"),
         Limits::DEFAULT,
-        Want::Unscoped,
+        Want(Kind::Unscoped, 0, &[]),
     ),
     Row(
         FREE,
         Line(Form::Axiom, "m0"),
         Limits::DEFAULT,
-        Want::Unscoped,
+        Want(Kind::Unscoped, 0, &[]),
     ),
     Row(
         FREE,
         Line(Form::Axiom, "p0.0 c7"),
         Limits::DEFAULT,
-        Want::Unscoped,
+        Want(Kind::Unscoped, 0, &[]),
     ),
     Row(
         FREE,
         Line(Form::Axiom, "p5.1 c7"),
         Limits::DEFAULT,
-        Want::Unscoped,
+        Want(Kind::Unscoped, 0, &[]),
     ),
     Row(
         FREE,
         Line(Form::Axiom, "> c0 ?"),
         Limits::DEFAULT,
-        Want::Unscoped,
+        Want(Kind::Unscoped, 0, &[]),
     ),
     // in a body, in a field that names itself, and in a term that is too large or without a type
     Row(
         FREE,
         Line(Form::Def, "c0  v0"),
         Limits::DEFAULT,
-        Want::Unscoped,
+        Want(Kind::Unscoped, 0, &[]),
     ),
-    Row(FREE, Line(PLAIN, "T0  v1"), Limits::DEFAULT, Want::Unscoped),
+    Row(
+        FREE,
+        Line(PLAIN, "T0  v1"),
+        Limits::DEFAULT,
+        Want(Kind::Unscoped, 0, &[]),
+    ),
     Row(
         FREE,
         Line(Form::Def, "> c1 c1  c12"),
         TWO_NODES,
-        Want::Unscoped,
+        Want(Kind::Unscoped, 0, &[]),
     ),
     // the first term that is too large, before an ask that fails
     Row(
         FREE,
         Line(Form::Axiom, "> c1 c1"),
         TWO_NODES,
-        Want::Spent(0, "> c1 c1"),
+        Want(Kind::Spent, 0, &["> c1 c1"]),
     ),
     Row(
         FREE,
         Line(Form::Axiom, "@ c2 c1"),
         FLAT,
-        Want::Spent(0, "@ c2 c1"),
+        Want(Kind::Spent, 0, &["@ c2 c1"]),
     ),
     Row(
         FREE,
         Line(Form::Def, "c1  @ c2 c1"),
         TWO_NODES,
-        Want::Spent(0, "@ c2 c1"),
+        Want(Kind::Spent, 0, &["@ c2 c1"]),
     ),
     Row(
         FREE,
@@ -175,7 +180,7 @@ const BEFORE_THE_ASKS: [Row; 17] = [
             "c1  P  > v0 v2  > c0 c0",
         ),
         TWO_NODES,
-        Want::Spent(2, "> v0 v2"),
+        Want(Kind::Spent, 2, &["> v0 v2"]),
     ),
 ];
 
@@ -185,131 +190,131 @@ const ASKS: [Row; 29] = [
         FREE,
         Line(Form::Axiom, "c1"),
         Limits::DEFAULT,
-        Want::NotSort(0, "c0"),
+        Want(Kind::NotSort, 0, &["c0"]),
     ),
     Row(
         FREE,
         Line(Form::Axiom, "c10"),
         Limits::DEFAULT,
-        Want::NotSort(0, "c0"),
+        Want(Kind::NotSort, 0, &["c0"]),
     ),
     Row(
         FREE,
         Line(Form::Axiom, "> c1 P"),
         Limits::DEFAULT,
-        Want::NotSort(0, "c0"),
+        Want(Kind::NotSort, 0, &["c0"]),
     ),
     Row(
         FREE,
         Line(Form::Axiom, "> c0 v0"),
         Limits::DEFAULT,
-        Want::NotSort(1, "c0"),
+        Want(Kind::NotSort, 1, &["c0"]),
     ),
     Row(
         FREE,
         Line(Form::Axiom, "c10"),
         NO_STEP,
-        Want::Spent(0, "c9"),
+        Want(Kind::Spent, 0, &["c9"]),
     ),
     // what is applied is no function; its form is asked before anything of the argument
     Row(
         FREE,
         Line(Form::Axiom, "@ c1 c1"),
         Limits::DEFAULT,
-        Want::NotFunction(0, "c0"),
+        Want(Kind::NotFunction, 0, &["c0"]),
     ),
     Row(
         FREE,
         Line(Form::Axiom, "@ c10 c1"),
         Limits::DEFAULT,
-        Want::NotFunction(0, "c0"),
+        Want(Kind::NotFunction, 0, &["c0"]),
     ),
     Row(
         FREE,
         Line(Form::Axiom, "@ @ c3 c1 @ c1 c1"),
         Limits::DEFAULT,
-        Want::NotFunction(0, "P"),
+        Want(Kind::NotFunction, 0, &["P"]),
     ),
     Row(
         FREE,
         Line(Form::Def, "> c0 c0  \\ c0 @ v0 v0"),
         Limits::DEFAULT,
-        Want::NotFunction(1, "c0"),
+        Want(Kind::NotFunction, 1, &["c0"]),
     ),
     // what is projected is no record, or another one
     Row(
         FREE,
         Line(Form::Axiom, "p5.0 c1"),
         Limits::DEFAULT,
-        Want::NotRecord(0, "c0"),
+        Want(Kind::NotRecord, 0, &["c0"]),
     ),
     Row(
         FREE,
         Line(Form::Axiom, "p6.0 c7"),
         Limits::DEFAULT,
-        Want::NotRecord(0, "@ c5 c0"),
+        Want(Kind::NotRecord, 0, &["@ c5 c0"]),
     ),
     Row(
         FREE,
         Line(Form::Axiom, "p5.0 @ m5 c0"),
         Limits::DEFAULT,
-        Want::NotRecord(0, "> c0 @ c5 c0"),
+        Want(Kind::NotRecord, 0, &["> c0 @ c5 c0"]),
     ),
     // an argument against the domain, with the normal forms of both
     Row(
         FREE,
         Line(Form::Axiom, "@ c3 c3"),
         Limits::DEFAULT,
-        Want::NotConvertible(0, "> c0 P", "c0"),
+        Want(Kind::NotConvertible, 0, &["> c0 P", "c0"]),
     ),
     Row(
         FREE,
         Line(Form::Axiom, "@ c11 c3"),
         Limits::DEFAULT,
-        Want::NotConvertible(0, "> c0 P", "c0"),
+        Want(Kind::NotConvertible, 0, &["> c0 P", "c0"]),
     ),
     Row(
         FREE,
         Line(Form::Axiom, "@ c11 c3"),
         NO_STEP,
-        Want::Spent(0, "c9"),
+        Want(Kind::Spent, 0, &["c9"]),
     ),
     Row(
         FREE,
         Line(Form::Axiom, "> c0 @ c3 c3"),
         Limits::DEFAULT,
-        Want::NotConvertible(1, "> c0 P", "c0"),
+        Want(Kind::NotConvertible, 1, &["> c0 P", "c0"]),
     ),
     // the type of a definition is asked before its body, and then compared with that of the body
     Row(
         FREE,
         Line(Form::Def, "c1  @ c1 c1"),
         Limits::DEFAULT,
-        Want::NotSort(0, "c0"),
+        Want(Kind::NotSort, 0, &["c0"]),
     ),
     Row(
         FREE,
         Line(Form::Def, "c0  @ @ c3 c1 c1"),
         Limits::DEFAULT,
-        Want::NotFunction(0, "P"),
+        Want(Kind::NotFunction, 0, &["P"]),
     ),
     Row(
         FREE,
         Line(Form::Def, "c0  c3"),
         Limits::DEFAULT,
-        Want::NotConvertible(0, "> c0 P", "c0"),
+        Want(Kind::NotConvertible, 0, &["> c0 P", "c0"]),
     ),
     Row(
         FREE,
         Line(Form::Def, "c9  c3"),
         Limits::DEFAULT,
-        Want::NotConvertible(0, "> c0 P", "c0"),
+        Want(Kind::NotConvertible, 0, &["> c0 P", "c0"]),
     ),
     Row(
         FREE,
         Line(Form::Def, "P  c0"),
         Limits::DEFAULT,
-        Want::NotConvertible(0, "T0", "P"),
+        Want(Kind::NotConvertible, 0, &["T0", "P"]),
     ),
     // a parameter, a field under it, and a second field that names the first
     Row(
@@ -322,7 +327,7 @@ const ASKS: [Row; 29] = [
             "c1  P",
         ),
         Limits::DEFAULT,
-        Want::NotSort(0, "c0"),
+        Want(Kind::NotSort, 0, &["c0"]),
     ),
     Row(
         FREE,
@@ -334,20 +339,20 @@ const ASKS: [Row; 29] = [
             "T0  c1",
         ),
         Limits::DEFAULT,
-        Want::NotSort(1, "c0"),
+        Want(Kind::NotSort, 1, &["c0"]),
     ),
     Row(
         FREE,
         Line(PLAIN, "c0  v0"),
         Limits::DEFAULT,
-        Want::NotSort(1, "c0"),
+        Want(Kind::NotSort, 1, &["c0"]),
     ),
     // the level: one too small, one too great, and one without fields
     Row(
         FREE,
         Line(PLAIN, "T0"),
         Limits::DEFAULT,
-        Want::NotConvertible(0, "T1", "T0"),
+        Want(Kind::NotConvertible, 0, &["T1", "T0"]),
     ),
     Row(
         FREE,
@@ -359,7 +364,7 @@ const ASKS: [Row; 29] = [
             "c0  @ c3 v0",
         ),
         Limits::DEFAULT,
-        Want::NotConvertible(0, "T0", "T1"),
+        Want(Kind::NotConvertible, 0, &["T0", "T1"]),
     ),
     Row(
         FREE,
@@ -371,20 +376,20 @@ const ASKS: [Row; 29] = [
             "",
         ),
         Limits::DEFAULT,
-        Want::NotConvertible(0, "T0", "T1"),
+        Want(Kind::NotConvertible, 0, &["T0", "T1"]),
     ),
     // no sort is above the last level
     Row(
         FREE,
         Line(Form::Axiom, "T63"),
         Limits::DEFAULT,
-        Want::LevelTooHigh,
+        Want(Kind::LevelTooHigh, 0, &[]),
     ),
     Row(
         FREE,
         Line(Form::Def, "T0  > c0 T64"),
         Limits::DEFAULT,
-        Want::LevelTooHigh,
+        Want(Kind::LevelTooHigh, 0, &[]),
     ),
 ];
 
@@ -433,15 +438,9 @@ fn a_count_is_asked_last(rt: HostRuntime) -> Result<(), Fail> {
     let alloc = rt.alloc();
     let mut theory = accepted(alloc, &BASE).map_err(|_e| "refused")?;
     let many = theory.add(wide(alloc, "c0", 256)?, &Limits::DEFAULT);
-    let Err(refused) = many else {
-        return Err("accepted".into());
-    };
-    assert!(rt; is_wanted(alloc, &refused, Want::TooMany(Count::Fields))?);
+    assert!(rt; is_outcome(alloc, &many, Want(Kind::TooMany(Count::Fields), 0, &[]))?);
     let ill = theory.add(wide(alloc, "T0", 256)?, &Limits::DEFAULT);
-    let Err(refused) = ill else {
-        return Err("accepted".into());
-    };
-    assert!(rt; is_wanted(alloc, &refused, Want::NotConvertible(0, "T1", "T0"))?);
+    assert!(rt; is_outcome(alloc, &ill, Want(Kind::NotConvertible, 0, &["T1", "T0"]))?);
     assert!(rt;
         theory
             .add(wide(alloc, "c0", 255)?, &Limits::DEFAULT)

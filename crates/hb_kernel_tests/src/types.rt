@@ -1,5 +1,5 @@
 //! Inferred types, checks, and the environment of a theory.
-use crate::want::{Want, accepted, is_wanted, name_at};
+use crate::want::{Kind, Want, accepted, is_wanted, name_at};
 use crate::write::{Form, Line, declaration, scoped, term};
 use hb_base::Limits;
 use hb_convert::{Verdict, convertible};
@@ -62,21 +62,20 @@ fn a_hole_has_no_type(rt: HostRuntime) -> Result<(), Fail> {
     let theory = accepted(alloc, &LINES).map_err(|_e| "refused")?;
     assert!(rt; Scoped::new(Term::Rel(0), 0).is_none());
     let hole = scoped(alloc, "?", 0)?;
-    match theory.infer(&[], &hole, &Limits::DEFAULT) {
-        Ok(_) => Err("typed".into()),
-        Err(refused) => {
-            assert!(rt; is_wanted(alloc, &refused, Want::Unscoped)?);
-            Ok(())
-        }
-    }
+    let refused = theory
+        .infer(&[], &hole, &Limits::DEFAULT)
+        .err()
+        .ok_or("typed")?;
+    assert!(rt; is_wanted(alloc, &refused, Want(Kind::Unscoped, 0, &[]))?);
+    Ok(())
 }
 
 /// Closed terms with a type, and the refusal of the check.
 const CHECKS: [(&str, &str, Want); 4] = [
-    ("?", "T1", Want::Unscoped),
-    ("m1", "c2", Want::NotSort(0, "c1")),
-    ("@ c2 c2", "T0", Want::NotFunction(0, "c1")),
-    ("T0", "T0", Want::NotConvertible(0, "T1", "T0")),
+    ("?", "T1", Want(Kind::Unscoped, 0, &[])),
+    ("m1", "c2", Want(Kind::NotSort, 0, &["c1"])),
+    ("@ c2 c2", "T0", Want(Kind::NotFunction, 0, &["c1"])),
+    ("T0", "T0", Want(Kind::NotConvertible, 0, &["T1", "T0"])),
 ];
 
 #[test]
@@ -86,10 +85,11 @@ fn terms_are_checked(rt: HostRuntime) -> Result<(), Fail> {
     for (text, ty, want) in &CHECKS {
         let t = scoped(alloc, text, 0)?;
         let ty = scoped(alloc, ty, 0)?;
-        match theory.check(&[], &t, &ty, &Limits::DEFAULT) {
-            Ok(()) => return Err("checked".into()),
-            Err(refused) => assert!(rt; is_wanted(alloc, &refused, *want)?),
-        }
+        let refused = theory
+            .check(&[], &t, &ty, &Limits::DEFAULT)
+            .err()
+            .ok_or("checked")?;
+        assert!(rt; is_wanted(alloc, &refused, *want)?);
     }
     let t = scoped(alloc, "P", 0)?;
     let ty = scoped(alloc, "T5", 0)?;

@@ -1,23 +1,32 @@
 //! What a refusal is to be.
 use crate::write::{Line, declaration, term};
-use hb_base::{Count, Limits, NameId};
+use hb_base::{Count, Limits};
 use hb_kernel::{KernelRefused, Theory};
-use hb_term::Scoped;
+use hb_term::{ConstId, Scoped};
 use std::alloc::{AllocError, Global};
 
-/// A refusal with its kept terms as they are written, and the depth of their scope.
-#[derive(Clone, Copy)]
-pub(crate) enum Want {
+/// The kind of a refusal, with the name or the count that it names.
+#[derive(Clone, Copy, PartialEq, Eq)]
+pub(crate) enum Kind {
     Redeclared(u16),
     Unscoped,
-    NotFunction(u32, &'static str),
-    NotSort(u32, &'static str),
-    NotRecord(u32, &'static str),
-    NotConvertible(u32, &'static str, &'static str),
+    NotFunction,
+    NotSort,
+    NotRecord,
+    NotConvertible,
     LevelTooHigh,
-    Spent(u32, &'static str),
+    Spent,
     TooMany(Count),
+    NoMemory,
 }
+
+/// A refusal with the depth of the scope of its kept terms, and with the terms as they are written.
+#[derive(Clone, Copy)]
+pub(crate) struct Want(
+    pub(crate) Kind,
+    pub(crate) u32,
+    pub(crate) &'static [&'static str],
+);
 
 /// The number of the first name of the declaration at the place.
 pub(crate) fn name_at(place: usize) -> u16 {
@@ -27,12 +36,18 @@ pub(crate) fn name_at(place: usize) -> u16 {
 /// A theory of the lines, which all have to be accepted.
 pub(crate) fn accepted(alloc: Global, lines: &[Line]) -> Result<Theory, KernelRefused> {
     let mut theory = Theory::new(alloc)?;
+    add_all(alloc, &mut theory, lines)?;
+    Ok(theory)
+}
+
+/// Adds the lines, which all have to be accepted.
+fn add_all(alloc: Global, theory: &mut Theory, lines: &[Line]) -> Result<(), KernelRefused> {
     let mut place = 0;
     for line in lines {
         theory.add(declaration(alloc, name_at(place), *line)?, &Limits::DEFAULT)?;
         place += 1;
     }
-    Ok(theory)
+    Ok(())
 }
 
 /// Whether the line, with this number of its first name, is refused as wanted, and nothing is added.
@@ -45,10 +60,20 @@ pub(crate) fn is_refused(
     want: Want,
 ) -> Result<bool, AllocError> {
     let before = theory.env().len();
-    let decl = declaration(alloc, name, line)?;
-    match theory.add(decl, limits) {
+    let added = theory.add(declaration(alloc, name, line)?, limits);
+    let right = is_outcome(alloc, &added, want)?;
+    Ok(right && theory.env().len() == before)
+}
+
+/// Whether it is the wanted refusal.
+pub(crate) fn is_outcome(
+    alloc: Global,
+    added: &Result<ConstId, KernelRefused>,
+    want: Want,
+) -> Result<bool, AllocError> {
+    match added {
         Ok(_) => Ok(false),
-        Err(refused) => Ok(is_wanted(alloc, &refused, want)? && theory.env().len() == before),
+        Err(refused) => is_wanted(alloc, refused, want),
     }
 }
 
@@ -58,26 +83,66 @@ pub(crate) fn is_wanted(
     refused: &KernelRefused,
     want: Want,
 ) -> Result<bool, AllocError> {
-    match (refused, want) {
-        (KernelRefused::Redeclared(name), Want::Redeclared(number)) => Ok(*name == NameId(number)),
-        (KernelRefused::Unscoped, Want::Unscoped) => Ok(true),
-        (KernelRefused::LevelTooHigh, Want::LevelTooHigh) => Ok(true),
-        (KernelRefused::TooMany(count), Want::TooMany(wanted)) => Ok(*count == wanted),
-        (KernelRefused::NotFunction(w), Want::NotFunction(depth, text)) => keeps(
-            alloc, w, depth, text,
-        ),
-        (KernelRefused::NotSort(w), Want::NotSort(depth, text)) => keeps(alloc, w, depth, text),
-        (KernelRefused::NotRecord(w), Want::NotRecord(depth, text)) => keeps(alloc, w, depth, text),
-        (KernelRefused::Spent(t), Want::Spent(depth, text)) => keeps(alloc, t, depth, text),
-        (KernelRefused::NotConvertible(x, y), Want::NotConvertible(depth, a, b)) => {
-            Ok(keeps(alloc, x, depth, a)? && keeps(alloc, y, depth, b)?)
-        }
-        _ => Ok(false),
+    let Want(kind, depth, texts) = want;
+    if kind_of(refused) != kind {
+        return Ok(false);
+    }
+    if !keeps(alloc, first_of(refused), depth, texts.get(0))? {
+        return Ok(false);
+    }
+    keeps(alloc, second_of(refused), depth, texts.get(1))
+}
+
+/// Whether the kept term is that of the text, in a scope of the depth, or there is neither.
+fn keeps(
+    alloc: Global,
+    kept: Option<&Scoped>,
+    depth: u32,
+    text: Option<&&'static str>,
+) -> Result<bool, AllocError> {
+    match kept {
+        None => Ok(text.is_none()),
+        Some(kept) => match text {
+            None => Ok(false),
+            Some(text) => {
+                let wanted = term(alloc, text)?;
+                Ok(kept.depth() == depth && kept.term().same(&wanted))
+            }
+        },
     }
 }
 
-/// Whether the kept term is that of the text, in a scope of the depth.
-fn keeps(alloc: Global, kept: &Scoped, depth: u32, text: &str) -> Result<bool, AllocError> {
-    let wanted = term(alloc, text)?;
-    Ok(kept.depth() == depth && kept.term().same(&wanted))
+fn kind_of(refused: &KernelRefused) -> Kind {
+    match refused {
+        KernelRefused::Redeclared(name) => Kind::Redeclared(name.0),
+        KernelRefused::Unscoped => Kind::Unscoped,
+        KernelRefused::NotFunction(_) => Kind::NotFunction,
+        KernelRefused::NotSort(_) => Kind::NotSort,
+        KernelRefused::NotRecord(_) => Kind::NotRecord,
+        KernelRefused::NotConvertible(_, _) => Kind::NotConvertible,
+        KernelRefused::LevelTooHigh => Kind::LevelTooHigh,
+        KernelRefused::Spent(_) => Kind::Spent,
+        KernelRefused::TooMany(count) => Kind::TooMany(*count),
+        KernelRefused::NoMemory => Kind::NoMemory,
+    }
+}
+
+/// The first term that the refusal keeps.
+fn first_of(refused: &KernelRefused) -> Option<&Scoped> {
+    match refused {
+        KernelRefused::NotFunction(w) => Some(w),
+        KernelRefused::NotSort(w) => Some(w),
+        KernelRefused::NotRecord(w) => Some(w),
+        KernelRefused::NotConvertible(x, _) => Some(x),
+        KernelRefused::Spent(t) => Some(t),
+        _ => None,
+    }
+}
+
+/// The second term that the refusal keeps.
+fn second_of(refused: &KernelRefused) -> Option<&Scoped> {
+    match refused {
+        KernelRefused::NotConvertible(_, y) => Some(y),
+        _ => None,
+    }
 }
