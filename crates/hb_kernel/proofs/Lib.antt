@@ -1,0 +1,14 @@
+pub mod FaultLemmas
+pub mod ClosedLemmas
+pub mod ScopeLemmas
+pub mod LeafLemmas
+pub mod CompareLemmas
+pub mod AppliedLemmas
+pub mod InferLemmas
+pub mod KnownLemmas
+pub mod SizeLemmas
+pub mod TelescopeLemmas
+pub mod AcceptLemmas
+pub mod JudgeLemmas
+pub mod RefusalLemmas
+pub mod TheoryLemmas
