@@ -1,0 +1,6 @@
+//! The grammar of sources over a file's tokens.
+#![tactic(auto)]
+
+mod level;
+mod mark;
+mod piece;
