@@ -14,7 +14,7 @@ use Rattle.hb_grammar.specs.declared.mark.Second.TheVariants as second
 abbrev pub piece : List ℕ → Span → List ℕ
 piece bytes place = take (place.to - place.from) (drop place.from bytes)
 
-unfoldable pub keyword_mark : List ℕ → Mark
+abbrev pub keyword_mark : List ℕ → Mark
 keyword_mark text =
     if bytes_eq text (codes "Axiom") then Axiom else (
     if bytes_eq text (codes "Context") then Context else (
@@ -28,7 +28,7 @@ keyword_mark text =
     if bytes_eq text (codes "fun") then Fun else (
     if bytes_eq text (codes "of") then Of else Other))))))))))
 
-unfoldable pub symbol_mark : List ℕ → Mark
+abbrev pub symbol_mark : List ℕ → Mark
 symbol_mark text =
     if bytes_eq text (codes "(") then Open else (
     if bytes_eq text (codes ")") then Close else (
@@ -45,13 +45,13 @@ symbol_mark text =
     if bytes_eq text (codes ".(") then Project else Other))))))))))))
 
 -- the second part of a name that commands may ask for
-unfoldable pub part_mark : List ℕ → Second
+abbrev pub part_mark : List ℕ → Second
 part_mark text =
     if bytes_eq text (codes "Build") then second.Build else (
     if bytes_eq text (codes "type") then second.Carried else second.Plain)
 
 -- the second part of a name with `HB` for its first: the words of commands
-unfoldable pub word_mark : List ℕ → Second
+abbrev pub word_mark : List ℕ → Second
 word_mark text =
     if bytes_eq text (codes "mixin") then second.Mixin else (
     if bytes_eq text (codes "factory") then second.Factory else (
@@ -64,25 +64,25 @@ word_mark text =
     if bytes_eq text (codes "howto") then second.Howto else (
     if bytes_eq text (codes "about") then second.About else part_mark text)))))))))
 
-unfoldable pub pair_mark : List ℕ → List ℕ → Second
+abbrev pub pair_mark : List ℕ → List ℕ → Second
 pair_mark first last = if bytes_eq first (codes "HB") then word_mark last else part_mark last
 
 abbrev pub is_point : ℕ → Bool
 is_point b = b == 46
 
 -- what stands before the point of a name of two parts; all of a name of one part
-unfoldable pub first_part : List ℕ → List ℕ
+abbrev pub first_part : List ℕ → List ℕ
 first_part text = before_first is_point text
 
-unfoldable pub second_part : List ℕ → List ℕ
+abbrev pub second_part : List ℕ → List ℕ
 second_part text = after_first is_point text
 
-unfoldable pub name_mark : List ℕ → Mark
+abbrev pub name_mark : List ℕ → Mark
 name_mark text =
     if list_any is_point text then Pair (pair_mark (first_part text) (second_part text)) else Ident
 
 -- a token of the kind, with this text
-unfoldable pub mark_of : TokenKind → List ℕ → Mark
+abbrev pub mark_of : TokenKind → List ℕ → Mark
 mark_of kind.Name text = name_mark text
 mark_of kind.Keyword text = keyword_mark text
 mark_of kind.Hole text = Hole
@@ -97,5 +97,5 @@ abbrev pub number_of : List ℕ → ℕ
 number_of digits = fold (λ n b. 10 * n + (b - 48)) 0 digits
 
 -- a written level: its number, or 64 for each that is above 63
-unfoldable pub level_of : List ℕ → ℕ
+abbrev pub level_of : List ℕ → ℕ
 level_of digits = min 64 (number_of digits)

@@ -3,4 +3,5 @@
 
 mod level;
 mod mark;
+mod number;
 mod piece;

@@ -67,67 +67,103 @@ fn pair(first: &[u8], last: &[u8]) -> Second
 fn word(text: &[u8]) -> Second
     ensures { result ≡ word_mark text.now }
 {
-    match text {
-        b"mixin" => Second::Mixin,
-        b"factory" => Second::Factory,
-        b"builders" => Second::Builders,
-        b"end" => Second::End,
-        b"structure" => Second::Structure,
-        b"instance" => Second::Instance,
-        b"join" => Second::Join,
-        b"find" => Second::Find,
-        b"howto" => Second::Howto,
-        b"about" => Second::About,
-        _ => part(text),
+    if text == b"mixin".as_slice() {
+        Second::Mixin
+    } else if text == b"factory".as_slice() {
+        Second::Factory
+    } else if text == b"builders".as_slice() {
+        Second::Builders
+    } else if text == b"end".as_slice() {
+        Second::End
+    } else if text == b"structure".as_slice() {
+        Second::Structure
+    } else if text == b"instance".as_slice() {
+        Second::Instance
+    } else if text == b"join".as_slice() {
+        Second::Join
+    } else if text == b"find".as_slice() {
+        Second::Find
+    } else if text == b"howto".as_slice() {
+        Second::Howto
+    } else if text == b"about".as_slice() {
+        Second::About
+    } else {
+        part(text)
     }
 }
 
 fn part(text: &[u8]) -> Second
     ensures { result ≡ part_mark text.now }
 {
-    match text {
-        b"Build" => Second::Build,
-        b"type" => Second::Carried,
-        _ => Second::Plain,
+    if text == b"Build".as_slice() {
+        Second::Build
+    } else if text == b"type".as_slice() {
+        Second::Carried
+    } else {
+        Second::Plain
     }
 }
 
 fn keyword(text: &[u8]) -> Mark
     ensures { result ≡ keyword_mark text.now }
 {
-    match text {
-        b"Axiom" => Mark::Axiom,
-        b"Context" => Mark::Context,
-        b"Definition" => Mark::Definition,
-        b"Import" => Mark::Import,
-        b"Prop" => Mark::Prop,
-        b"Record" => Mark::Record,
-        b"Require" => Mark::Require,
-        b"Type" => Mark::Universe,
-        b"forall" => Mark::Forall,
-        b"fun" => Mark::Fun,
-        b"of" => Mark::Of,
-        _ => Mark::Other,
+    if text == b"Axiom".as_slice() {
+        Mark::Axiom
+    } else if text == b"Context".as_slice() {
+        Mark::Context
+    } else if text == b"Definition".as_slice() {
+        Mark::Definition
+    } else if text == b"Import".as_slice() {
+        Mark::Import
+    } else if text == b"Prop".as_slice() {
+        Mark::Prop
+    } else if text == b"Record".as_slice() {
+        Mark::Record
+    } else if text == b"Require".as_slice() {
+        Mark::Require
+    } else if text == b"Type".as_slice() {
+        Mark::Universe
+    } else if text == b"forall".as_slice() {
+        Mark::Forall
+    } else if text == b"fun".as_slice() {
+        Mark::Fun
+    } else if text == b"of".as_slice() {
+        Mark::Of
+    } else {
+        Mark::Other
     }
 }
 
 fn symbol(text: &[u8]) -> Mark
     ensures { result ≡ symbol_mark text.now }
 {
-    match text {
-        b"(" => Mark::Open,
-        b")" => Mark::Close,
-        b"{" => Mark::Brace,
-        b"}" => Mark::Unbrace,
-        b":" => Mark::Colon,
-        b":=" => Mark::Becomes,
-        b"=>" => Mark::Gives,
-        b"->" => Mark::Arrow,
-        b"," => Mark::Comma,
-        b";" => Mark::Semicolon,
-        b"&" => Mark::Ampersand,
-        b"@" => Mark::At,
-        b".(" => Mark::Project,
-        _ => Mark::Other,
+    if text == b"(".as_slice() {
+        Mark::Open
+    } else if text == b")".as_slice() {
+        Mark::Close
+    } else if text == b"{".as_slice() {
+        Mark::Brace
+    } else if text == b"}".as_slice() {
+        Mark::Unbrace
+    } else if text == b":".as_slice() {
+        Mark::Colon
+    } else if text == b":=".as_slice() {
+        Mark::Becomes
+    } else if text == b"=>".as_slice() {
+        Mark::Gives
+    } else if text == b"->".as_slice() {
+        Mark::Arrow
+    } else if text == b",".as_slice() {
+        Mark::Comma
+    } else if text == b";".as_slice() {
+        Mark::Semicolon
+    } else if text == b"&".as_slice() {
+        Mark::Ampersand
+    } else if text == b"@".as_slice() {
+        Mark::At
+    } else if text == b".(".as_slice() {
+        Mark::Project
+    } else {
+        Mark::Other
     }
 }

@@ -1,0 +1,35 @@
+-- The names that a token needs, and their numbers.
+use Rattle.std.specs.Prelude.{◌≡◌, ℕ, List, [], ◌∷◌, ◌++◌, Some, false, slice_get}
+use Rattle.std.specs.List.{Any}
+use Rattle.hb_base.specs.declared.name_id.NameId.{NameId}
+use Rattle.hb_base.specs.Names.{is_named, with_name}
+use Rattle.hb_reader.specs.declared.need.Need.{Need}
+use Rattle.hb_reader.specs.declared.need.Need.TheVariants.{Nothing, Whole, First, Both}
+use Rattle.hb_parse.specs.Marks.{first_part}
+
+-- the names that are held stay, with their numbers
+abbrev pub Extends : List (List ℕ) → List (List ℕ) → Type 0
+Extends old new = (more : List (List ℕ)) × (new ≡ old ++ more)
+
+-- the texts that are needed of a token
+abbrev pub needed : Need → List ℕ → List (List ℕ)
+needed Nothing text = []
+needed Whole text = text ∷ []
+needed First text = first_part text ∷ []
+needed Both text = first_part text ∷ (text ∷ [])
+
+-- the names after these texts are numbered
+abbrev pub with_names : List (List ℕ) → List (List ℕ) → List (List ℕ)
+with_names names [] = names
+with_names names (text ∷ texts) = with_names (with_name names text) texts
+
+-- the number is that of the text
+abbrev pub IsNumber : List (List ℕ) → List ℕ → NameId → Type 0
+IsNumber names text id = slice_get names id.0 ≡ Some text
+
+-- the numbers of the whole text and of its first part, where they are needed
+abbrev pub AreNumbers : List (List ℕ) → Need → List ℕ → NameId → NameId → Type 0
+AreNumbers names Nothing text whole first = Unit {0}
+AreNumbers names Whole text whole first = IsNumber names text whole
+AreNumbers names First text whole first = IsNumber names (first_part text) first
+AreNumbers names Both text whole first = IsNumber names text whole × IsNumber names (first_part text) first
