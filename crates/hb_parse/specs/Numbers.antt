@@ -1,6 +1,5 @@
 -- The names that a token needs, and their numbers.
-use Rattle.std.specs.Prelude.{◌≡◌, ℕ, List, [], ◌∷◌, ◌++◌, Some, false, slice_get}
-use Rattle.std.specs.List.{Any}
+use Rattle.std.specs.Prelude.{◌≡◌, ℕ, List, [], ◌∷◌, ◌++◌, Some, false, slice_get, ◌⊎◌}
 use Rattle.hb_base.specs.declared.name_id.NameId.{NameId}
 use Rattle.hb_base.specs.Names.{is_named, with_name}
 use Rattle.hb_reader.specs.declared.need.Need.{Need}
@@ -33,3 +32,10 @@ AreNumbers names Nothing text whole first = Unit {0}
 AreNumbers names Whole text whole first = IsNumber names text whole
 AreNumbers names First text whole first = IsNumber names (first_part text) first
 AreNumbers names Both text whole first = IsNumber names text whole × IsNumber names (first_part text) first
+
+-- a text that is needed isn't held
+abbrev pub Lacks : List (List ℕ) → Need → List ℕ → Type 0
+Lacks names Nothing text = ⊥
+Lacks names Whole text = is_named names text ≡ false
+Lacks names First text = is_named names (first_part text) ≡ false
+Lacks names Both text = (is_named names text ≡ false) ⊎ (is_named names (first_part text) ≡ false)

@@ -1,10 +1,9 @@
 //! Numbers of the names that a token needs.
 ghost use Rattle.std.specs.Prelude.{◌≡◌, ◌≤◌, Err, IfOk, IfErr, OnOk, OnErr, length, false};
-ghost use Rattle.std.specs.List.{Any};
 ghost use Rattle.std.specs.Str.{IsAscii};
 ghost use Rattle.hb_base.specs.Names.{is_named, with_name};
 ghost use Rattle.hb_base.specs.declared.names.NamesRefused.TheVariants.{TooMany};
-ghost use Rattle.hb_parse.specs.Numbers.{Extends, IsNumber, AreNumbers, needed, with_names};
+ghost use Rattle.hb_parse.specs.Numbers.{Extends, IsNumber, AreNumbers, Lacks, needed, with_names};
 
 use super::mark::first;
 use hb_base::{NameId, Names, NamesRefused};
@@ -37,7 +36,7 @@ pub(crate) fn numbers(
     ensures numbers { IfOk result (λ n. AreNumbers names.new need text.now n.0 n.1) }
     ensures added { OnOk result (names.new ≡ with_names names.old (needed need text.now)) }
     ensures kept { Extends names.old names.new }
-    ensures too_many { result ≡ Err TooMany → (65535 ≤ length names.new) × Any (λ t. is_named names.new t ≡ false) (needed need text.now) }
+    ensures too_many { result ≡ Err TooMany → (65535 ≤ length names.new) × Lacks names.new need text.now }
 {
     match need {
         Need::Nothing => Ok((NONE, NONE)),
