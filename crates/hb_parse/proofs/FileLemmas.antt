@@ -7,6 +7,7 @@ use Rattle.hb_raw.specs.declared.command.Command.{Command}
 use Rattle.hb_raw.specs.Sentence.{Sentence}
 use Rattle.hb_raw.specs.Views.{command, sentences}
 use Rattle.hb_lex.specs.declared.token.Token.{Token}
+use Rattle.hb_lex.specs.declared.token.TokenKind.TheVariants as kind
 use Rattle.hb_grammar.specs.declared.mark.Mark.{Mark}
 use Rattle.hb_grammar.specs.Leaf.{Sign}
 use Rattle.hb_grammar.specs.Machine.{State, begin, done, step, read}
@@ -61,6 +62,15 @@ going_settle _ h = refl
 pub going_moving : (t : State) → finished_in t ≡ None → IsMoving t
 going_moving (done c) h = absurd (cc)
 going_moving _ h = tt
+
+-- what stands for a token past the end
+abbrev pub no_token : Token
+no_token = record { kind = kind.Name; span = record { file = 0; from = 0; to = 0 } }
+
+pub token_at : {X : Type 0} (ts : List X) (i : ℕ) (d e : X) → i < length ts → get_or ts i d ≡ get_or ts i e
+token_at [] i d e l = absurd (omega (arith, l))
+token_at (t ∷ ts) zero d e l = refl
+token_at (t ∷ ts) (suc i) d e l = token_at ts i d e (omega (arith, l))
 
 module _ (bytes : List ℕ) (ts : List Token) (i : ℕ) (t : Token) where
   -- what is known before a token
