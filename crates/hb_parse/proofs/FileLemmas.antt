@@ -147,18 +147,21 @@ module _ (bytes : List ℕ) (ts : List Token) (i : ℕ) (t : Token) where
         subst (λ (n : ℕ). DeepAt limits (file_of ν bytes ts) n) (h.2 i (sign ν))
         (came-deep mark (sign ν) next.0 i (seen_of ν bytes t) (inside l ν) (stands l g ν) (came ν a) next.1 (h.1 (sign ν)));
   }
-  stopped l g names cs s Full came moving h = (refl, record {
-    index = i;
-    inside = l;
-    place = refl;
-    begins = λ ν a.
-        let next = some_of (step s mark (sign ν)) (h.0 (sign ν)) in
-        subst (λ (x : List Seen). Front limits x) (sym (more_tokens ν bytes ts i t l g))
-        (came-front (came-more mark (sign ν) next.0 (came ν a) next.1 (h.1 (sign ν))));
-    full = h.2;
-    new = subst (λ (x : Span). (is_named names (piece bytes x) ≡ false) ⊎ (is_named names (first_part (piece bytes x)) ≡ false))
-        (sym (placed l g)) (lacking names (piece bytes t.span) h.3.0 h.3.1);
-  })
+  stopped l g names cs s Full came moving h = (
+    refl,
+    record {
+      index = i;
+      inside = l;
+      place = refl;
+      begins = λ ν a.
+          let next = some_of (step s mark (sign ν)) (h.0 (sign ν)) in
+          subst (λ (x : List Seen). Front limits x) (sym (more_tokens ν bytes ts i t l g))
+          (came-front (came-more mark (sign ν) next.0 (came ν a) next.1 (h.1 (sign ν))));
+      full = h.2;
+      new = subst (λ (x : Span). (is_named names (piece bytes x) ≡ false) ⊎ (is_named names (first_part (piece bytes x)) ≡ false))
+          (sym (placed l g)) (lacking names (piece bytes t.span) h.3.0 h.3.1);
+    },
+  )
   stopped l g names cs s NoMemory came moving h = tt
 
 -- the end of the file

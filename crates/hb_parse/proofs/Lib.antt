@@ -3,3 +3,5 @@ pub mod Alike
 pub mod Ascii
 pub mod TurnLemmas
 pub mod FileLemmas
+pub mod Loads
+pub mod LoadSteps

@@ -2,6 +2,8 @@
 pub mod Marks
 pub mod Signs
 pub mod Answers
+pub mod Uses
 -- what the crate's own functions promise each other
+pub mod Needs
 pub mod Numbers
 pub mod Turns

@@ -20,6 +20,7 @@ use std::alloc::{AllocError, Global};
 
 /// The greatest nesting, and the most arguments of an application.
 const NESTED: u32 = 200;
+
 const APPLIED: u32 = 255;
 
 /// Why the reader stops at a token.

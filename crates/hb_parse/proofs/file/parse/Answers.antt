@@ -62,13 +62,13 @@ loop-i-preserved c =
           let f : c.match-finished.commands.items ≡ cs ++ (w.in-Ok-finished.command ∷ []) =
           ap (λ v. v.items) w.commands-is ∙ w.in_ok-push-in-Ok-finished.ensures.items in
           let ended = sentence_ends bytes ts i t new cs w.in-Ok-finished.command u w.in-Ok-finished.ensures.ended came in
-          record { came = λ ν a. rw (e, f) (ended ν a); moving = rw e tt; kept = kept; }
+          record { came = λ ν a. rw (e, f) (ended ν a); moving = rw e tt; kept = kept }
       | in-Err-finished w ↦
           let e : state c.match-finished.state ≡ u = ap state w.state-is ∙ w.in-Err-finished.ensures.same in
           let f : c.match-finished.commands.items ≡ cs = ap (λ v. v.items) w.commands-is in
           let going = rw w.in-Err-finished.ensures.same at w.in-Err-finished.ensures.going in
           let goes_on = sentence_goes_on bytes ts i t new (sentences cs) u going came in
-          record { came = λ ν a. rw (e, f) (goes_on ν a); moving = rw e (going_moving u going); kept = kept; }
+          record { came = λ ν a. rw (e, f) (goes_on ν a); moving = rw e (going_moving u going); kept = kept }
     ]
 
 pub returns-then-whole-clause-read : goal.returns-then-whole-clause-read

@@ -7,6 +7,7 @@ use Rattle.hb_reader.specs.States.{state}
 use Rattle.hb_parse.specs.Turns.{Halts, Overfull, Stops}
 use Rattle.hb_parse.specs.Marks.{mark_of}
 use Rattle.hb_parse.proofs.TurnLemmas.{goes, halts, overfull}
+use Rattle.hb_parse.proofs.LoadSteps.{step_loads}
 use Rattle.hb_parse.proofs.turn.turn.Goals as goal
 
 pub numbers-requires : goal.numbers-requires
@@ -16,8 +17,8 @@ pub returns-in-Ok-clause-next : goal.returns-in-Ok-clause-next
 returns-in-Ok-clause-next c =
     IfOk-weaker c.advance.result _ _ (λ s h.
     goes c.numbers.new.names (state c.args.around) (state s) c.args.kind c.args.text.now c.args.place c.mark-mark.result c.needs.result
-        c.in-Ok.whole c.in-Ok.first c.value-value.result c.mark-mark.ensures c.value-value.ensures c.in-Ok.ensures.numbers c.needs.ensures.suffices h)
-        c.advance.ensures.next
+    c.in-Ok.whole c.in-Ok.first c.value-value.result c.mark-mark.ensures c.value-value.ensures c.in-Ok.ensures.numbers c.needs.ensures.suffices h)
+    c.advance.ensures.next
 
 pub returns-in-Ok-clause-fits : goal.returns-in-Ok-clause-fits
 returns-in-Ok-clause-fits c = rw (← c.mark-mark.ensures) c.advance.ensures.fits
