@@ -15,8 +15,8 @@ use Rattle.hb_grammar.specs.Part.{Part}
 use Rattle.hb_grammar.specs.Grammar.{Bounds, Spine, spine_part, applied_part, conditions, word_term, carrier_term}
 use Rattle.hb_grammar.specs.Machine.{Before, first, behind, alone, making, filled, next, RecordOf, InstanceOf, Stack, right, inside, casting, lone, group_type, body, axiom_type, definition_type, definition_body, field_type, instance_value, build_value, carrier_found, Binding, of_product, of_function, of_definition, Listing, of_record, of_structure, Placing, of_factory, of_builder, State, begin, done, take, either, want, have, more, bare_begun, universe_at, projecting, binders, bares, groups, group_opened, group_names, items, fields, conditioned, condition_names, placing, place_names, bare_groups}
 use Rattle.hb_reader.specs.declared.need.Need.{Need}
-use Rattle.hb_reader.specs.declared.need.Need.TheVariants.{Nothing, Whole, First, Both}
-use Rattle.hb_parse.specs.Needs.{row_need}
+use Rattle.hb_reader.specs.Needs.{row_need}
+use Rattle.hb_parse.specs.Numbers.{number_uses}
 use Rattle.hb_parse.specs.Uses.{name_uses, bound_uses, term_uses, terms_uses, group_uses, groups_uses, word_uses, option_uses, item_uses, field_uses, binder_uses, sentence_uses}
 
 -- both are zero, or neither
@@ -90,10 +90,7 @@ module _ (i : ℕ) where
 
   -- how often the number stands in what is needed
   abbrev pub weight : Need → Sign → ℕ
-  weight Nothing w = 0
-  weight Whole w = name_uses i w.whole
-  weight First w = name_uses i w.first
-  weight Both w = name_uses i w.whole + name_uses i w.first
+  weight d w = number_uses i d w.whole w.first
 
   -- behind an argument; a `Type` without a level holds nothing
   abbrev pub HaveLoad : Before → Part → Bool → Stack → ℕ → Type 0

@@ -10,13 +10,13 @@ use Rattle.hb_grammar.specs.Leaf.{Sign}
 use Rattle.hb_grammar.specs.Machine.{State, step}
 use Rattle.hb_reader.specs.declared.need.Need.{Need}
 use Rattle.hb_reader.specs.declared.need.Need.TheVariants.{Nothing, Whole, First, Both}
-use Rattle.hb_reader.specs.Needs.{Agree}
+use Rattle.hb_reader.specs.Needs.{Agree, need}
 use Rattle.hb_parse.specs.declared.turn.Stop.{Stop}
 use Rattle.hb_parse.specs.declared.turn.Stop.TheVariants.{Stuck, Deep, Full, NoMemory}
 use Rattle.hb_parse.specs.Marks.{mark_of}
-use Rattle.hb_parse.specs.Numbers.{AreNumbers, Lacks}
+use Rattle.hb_parse.specs.Numbers.{AreNumbers, Counts, Lacks, number_uses}
 use Rattle.hb_parse.specs.Signs.{Numbering, Agrees, value_of, sign_of}
-use Rattle.hb_parse.specs.Turns.{Goes, Halts, Overfull, Stops}
+use Rattle.hb_parse.specs.Turns.{Counted, Goes, Halts, Overfull, Stops}
 use Rattle.hb_parse.proofs.Alike.{moves_alike}
 
 -- the sign with the numbers that a token needs is that of each numbering
@@ -59,3 +59,9 @@ overfull names s m text w need fault full Full h =
 overfull names s m text w need fault full Stuck h = halts names s m text w Stuck h
 overfull names s m text w need fault full (Deep late) h = halts names s m text w (Deep late) h
 overfull names s m text w need fault full NoMemory h = tt
+
+pub counted : (old new : List (List ℕ)) (s t : State) (m : Mark) (w : Sign) (d : Need) → step s m w ≡ Some t
+    → (IsSome (step s m w) → d ≡ need s m) → ((i : ℕ) → Counts i old new (number_uses i d w.whole w.first)) → Counted old new s m t
+counted old new s t m w d h exactly c =
+    let e : d ≡ need s m = exactly (ap is_some h) in
+    (w, h, λ i. subst (λ (x : Need). Counts i old new (number_uses i x w.whole w.first)) e (c i))

@@ -4,6 +4,5 @@ pub mod Signs
 pub mod Answers
 pub mod Uses
 -- what the crate's own functions promise each other
-pub mod Needs
 pub mod Numbers
 pub mod Turns

@@ -9,6 +9,7 @@ use Rattle.hb_grammar.specs.Leaf.{Sign}
 use Rattle.hb_grammar.specs.Machine.{State, step, read}
 use Rattle.hb_grammar.specs.Places.{IsWithin, place_of}
 use Rattle.hb_reader.specs.declared.need.Need.{Need}
+use Rattle.hb_reader.specs.Needs.{need}
 use Rattle.hb_parse.specs.declared.turn.Stop.{Stop}
 use Rattle.hb_parse.specs.declared.turn.Stop.TheVariants.{Stuck, Deep, Full, NoMemory}
 use Rattle.hb_base.specs.declared.count.Count.TheVariants as counts
@@ -18,7 +19,7 @@ use Rattle.hb_parse.specs.declared.error.ParseRefused.TheVariants.{Syntax, TooDe
 use Rattle.hb_parse.specs.declared.error.ParseRefused.TheVariants as refused
 use Rattle.hb_parse.specs.Answers.{limits, place_at}
 use Rattle.hb_parse.specs.Signs.{Numbering, Agrees, sign_of}
-use Rattle.hb_parse.specs.Numbers.{Lacks}
+use Rattle.hb_parse.specs.Numbers.{Counts, Lacks, number_uses}
 use Rattle.hb_parse.specs.Marks.{mark_of}
 
 -- the token is within the limits, or passes one
@@ -46,6 +47,11 @@ Halts s m w NoMemory = Unit {0}
 abbrev pub Goes : List (List ℕ) → State → TokenKind → List ℕ → Span → State → Type 0
 Goes names s k text place t =
     (ν : Numbering) → Agrees ν names → step s (mark_of k text) (sign_of ν k text place) ≡ Some t
+
+-- the names that the token needs are numbered, and no others
+abbrev pub Counted : List (List ℕ) → List (List ℕ) → State → Mark → State → Type 0
+Counted old new s m t =
+    (w : Sign) × (step s m w ≡ Some t) × ((i : ℕ) → Counts i old new (number_uses i (need s m) w.whole w.first))
 
 -- why the reader stops at a token of the kind with this text
 abbrev pub Stops : List (List ℕ) → State → Mark → List ℕ → Stop → Type 0

@@ -1,10 +1,10 @@
 //! The state of the reader between two tokens.
-ghost use Rattle.std.specs.Prelude.{◌≡◌, ◌↔◌, ◌-◌, ℕ, IsTrue, IfOk, IfErr, Some, None, cond, option_map};
+ghost use Rattle.std.specs.Prelude.{◌≡◌, ◌↔◌, ◌-◌, ℕ, IsTrue, IfOk, IfErr, IsSome, Some, None, cond, option_map};
 ghost use Rattle.hb_raw.specs.Views.{command};
 ghost use Rattle.hb_grammar.specs.Leaf as leaf;
 ghost use Rattle.hb_grammar.specs.Places.{Most, IsWithin, place_of};
 ghost use Rattle.hb_grammar.specs.Machine as plain;
-ghost use Rattle.hb_reader.specs.Needs.{Agree};
+ghost use Rattle.hb_reader.specs.Needs.{Agree, need};
 ghost use Rattle.hb_reader.specs.Signs.{sign};
 ghost use Rattle.hb_reader.specs.States.{state, finished_in, is_between};
 
@@ -52,9 +52,10 @@ impl State {
     /// doesn't, it leads to the same state.
     pub fn needs(&self, mark: Mark) -> Need
         ensures suffices { (w v : leaf.Sign) → Agree result w v → plain.step (state self.now) mark w ≡ plain.step (state self.now) mark v }
+        ensures exactly { (w : leaf.Sign) → IsSome (plain.step (state self.now) mark w) → result ≡ need (state self.now) mark }
     {
         let _mark = mark;
-        Need::Both
+        Need::Nothing
     }
 
     /// Whether the token is within the greatest nesting and the greatest number of arguments.

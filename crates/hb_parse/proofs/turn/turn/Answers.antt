@@ -1,13 +1,13 @@
-use Rattle.std.proofs.Common.{◌≡◌, refl, sym, ap, ◌∙◌, rules, Err}
+use Rattle.std.proofs.Common.{◌≡◌, refl, sym, ap, ◌∙◌, Some, Err}
 use Rattle.std.proofs.lemmas.Result.{IfOk-weaker, IfErr-weaker}
 use Rattle.hb_base.specs.declared.names.NamesRefused.TheVariants as faults
 use Rattle.hb_grammar.specs.Leaf.{Sign}
+use Rattle.hb_grammar.specs.Machine.{step}
 use Rattle.hb_reader.specs.Signs.{sign}
 use Rattle.hb_reader.specs.States.{state}
-use Rattle.hb_parse.specs.Turns.{Halts, Overfull, Stops}
+use Rattle.hb_parse.specs.Turns.{Counted, Halts, Overfull, Stops}
 use Rattle.hb_parse.specs.Marks.{mark_of}
-use Rattle.hb_parse.proofs.TurnLemmas.{goes, halts, overfull}
-use Rattle.hb_parse.proofs.LoadSteps.{step_loads}
+use Rattle.hb_parse.proofs.TurnLemmas.{counted, goes, halts, overfull}
 use Rattle.hb_parse.proofs.turn.turn.Goals as goal
 
 pub numbers-requires : goal.numbers-requires
@@ -51,3 +51,15 @@ returns-in-Err-clause-stop c =
 
 pub returns-in-Err-clause-kept : goal.returns-in-Err-clause-kept
 returns-in-Err-clause-kept c = c.numbers.ensures.kept
+
+pub returns-in-Ok-clause-counted : goal.returns-in-Ok-clause-counted
+returns-in-Ok-clause-counted c =
+    let s = state c.args.around in
+    let w : Sign = record { whole = c.in-Ok.whole; first = c.in-Ok.first; value = c.value-value.result; place = c.args.place } in
+    rw (← c.mark-mark.ensures) (IfOk-weaker c.advance.result (λ t. step s c.mark-mark.result w ≡ Some (state t))
+    (λ t. Counted c.args.names.now c.numbers.new.names s c.mark-mark.result (state t))
+    (λ t h. counted c.args.names.now c.numbers.new.names s (state t) c.mark-mark.result w c.needs.result h
+    (c.needs.ensures.exactly w) c.in-Ok.ensures.counted) c.advance.ensures.next)
+
+pub returns-in-Err-clause-counted : goal.returns-in-Err-clause-counted
+returns-in-Err-clause-counted c = IfOk-weaker c.overfull.result _ _ (λ s h. absurd h) c.overfull.ensures.never
