@@ -165,7 +165,7 @@ module _ (bytes : List ℕ) (ts : List Token) (i : ℕ) (t : Token) where
   stopped l g names cs s NoMemory came moving h = tt
 
 -- the end of the file
-at_begin : (s : State) → is_between s ≡ true → s ≡ begin
+pub at_begin : (s : State) → is_between s ≡ true → s ≡ begin
 at_begin begin h = refl
 at_begin (done c) h = absurd (cc)
 at_begin _ h = absurd (cc)

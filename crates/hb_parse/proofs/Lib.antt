@@ -5,3 +5,4 @@ pub mod TurnLemmas
 pub mod FileLemmas
 pub mod Loads
 pub mod LoadSteps
+pub mod NamesLemmas

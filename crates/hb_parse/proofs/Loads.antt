@@ -25,7 +25,7 @@ pub record Alike (a n : ℕ) : Type 0 where
   pub back : 0 < n → 0 < a
 
 grown : {a n m : ℕ} (c : ℕ) → (0 < a → 0 < n) → m ≡ n + c → 0 < a + c → 0 < m
-grown c f e p = elim (cases_lt 0 c) [ | inl l ↦ omega arith | inr z ↦ let q = f (omega arith) in omega arith ]
+grown c f e p = elim (cases_lt 0 c) [ inl l ↦ omega arith | inr z ↦ let q = f (omega arith) in omega arith ]
 
 -- b is a with c more uses, perhaps some of them twice
 pub moved : {a n b m : ℕ} (c : ℕ) → Alike a n → (0 < b → 0 < a + c) → (0 < a + c → 0 < b) → m ≡ n + c → Alike b m

@@ -10,6 +10,7 @@ use Rattle.hb_grammar.specs.Places.{Most, Reads, Front, SyntaxAt, DeepAt}
 use Rattle.hb_parse.specs.declared.error.ParseRefused.{ParseRefused}
 use Rattle.hb_parse.specs.declared.error.ParseRefused.TheVariants.{Syntax, TooDeep, TooMany, NoMemory}
 use Rattle.hb_parse.specs.Marks.{piece, first_part}
+use Rattle.hb_parse.specs.Uses.{uses}
 use Rattle.hb_parse.specs.Signs.{Numbering, Agrees, file_of}
 
 -- the greatest nesting, and the most arguments of an application
@@ -73,3 +74,11 @@ Refuses names bytes ts (Syntax at) = IsSyntaxAt names bytes ts at
 Refuses names bytes ts (TooDeep at) = IsDeepAt names bytes ts at
 Refuses names bytes ts (TooMany count at) = (count ≡ counts.Names) × IsFullAt names bytes ts at
 Refuses names bytes ts NoMemory = Unit {0}
+
+-- the names that the sentences hold are held
+abbrev pub AreHeld : List (List ℕ) → List Sentence → Type 0
+AreHeld names cs = (i : ℕ) → length names ≤ i → uses i cs ≡ 0
+
+-- each new name stands in the sentences
+abbrev pub AddsOnly : List (List ℕ) → List (List ℕ) → List Sentence → Type 0
+AddsOnly old new cs = (i : ℕ) → length old ≤ i → i < length new → 0 < uses i cs

@@ -1,7 +1,7 @@
 //! The commands of a file.
 ghost use Rattle.std.specs.Prelude.{◌≡◌, ◌≤◌, ◌<◌, ◌^◌, length, IfOk, IfErr, OnOk};
 ghost use Rattle.hb_raw.specs.Views.{sentences};
-ghost use Rattle.hb_parse.specs.Answers.{AreTokens, ReadsAs, Refuses, file_number, place_at};
+ghost use Rattle.hb_parse.specs.Answers.{AddsOnly, AreHeld, AreTokens, ReadsAs, Refuses, file_number, place_at};
 ghost use Rattle.hb_parse.specs.Numbers.{Extends};
 ghost use Rattle.hb_parse.specs.Turns.{refusal};
 
@@ -26,7 +26,11 @@ pub fn parse(
     requires tokens { AreTokens bytes.now tokens.now }
     ensures read { IfOk result (λ cs. ReadsAs names.new bytes.now tokens.now (sentences cs.items)) }
     ensures refused { IfErr result (λ e. Refuses names.new bytes.now tokens.now e) }
+
+    // The names that were held keep their numbers; after `Ok` each further one is a command's.
     ensures kept { Extends names.old names.new }
+    ensures held { IfOk result (λ cs. AreHeld names.new (sentences cs.items)) }
+    ensures alone { IfOk result (λ cs. AddsOnly names.old names.new (sentences cs.items)) }
 {
     let mut commands = Vec::new(alloc);
     let mut state = State::begin();

@@ -1,15 +1,18 @@
 use Rattle.std.proofs.Common.{◌≡◌, refl, sym, ap, ◌∙◌, subst, rules, length, get_or, arith, [], List, ℕ, ◌++◌, ◌∷◌}
 use Rattle.std.specs.Str.{IsAscii}
 use Rattle.std.proofs.lemmas.List.{append-nil}
+use Rattle.hb_raw.specs.declared.command.Command.{Command}
 use Rattle.hb_raw.specs.Views.{sentences}
 use Rattle.hb_grammar.specs.Machine.{State, begin}
 use Rattle.hb_grammar.proofs.Unique.{IsMoving}
 use Rattle.hb_grammar.proofs.Way.{Came, came-none}
 use Rattle.hb_reader.specs.States.{state}
 use Rattle.hb_parse.specs.Answers.{limits, Refuses}
+use Rattle.hb_parse.specs.Marks.{piece, mark_of}
 use Rattle.hb_parse.specs.Signs.{Numbering, Agrees}
 use Rattle.hb_parse.proofs.Ascii.{token_ascii}
-use Rattle.hb_parse.proofs.FileLemmas.{no_token, token_at, agrees-old, extends-more, next_token, sentence_ends, sentence_goes_on, going_moving, stopped, file_read, file_cut}
+use Rattle.hb_parse.proofs.FileLemmas.{no_token, token_at, agrees-old, extends-more, next_token, sentence_ends, sentence_goes_on, going_moving, stopped, at_begin, file_read, file_cut}
+use Rattle.hb_parse.proofs.NamesLemmas.{Named, named-none, named-step, named-ended, named-all}
 use Rattle.hb_parse.proofs.file.parse.Goals as goal
 use Rattle.hb_parse.proofs.file.parse.Goals.{in-Ok-finished+in_ok-push-in-Ok-finished, in-Err-finished}
 
@@ -21,6 +24,8 @@ loop-i-init c =
           (rw c.new-commands.ensures.items (came-none limits));
       moving = subst IsMoving (sym e) tt;
       kept = ([], sym (append-nil c.args.names.now));
+      named = λ i. subst (λ (x : State). Named c.args.names.now c.args.names.now (sentences c.new-commands.result.items) x i) (sym e)
+          (rw c.new-commands.ensures.items (named-none c.args.names.now i));
     }
 
 pub turn-requires : goal.turn-requires
@@ -56,19 +61,37 @@ loop-i-preserved c =
     let kept = extends-more c.args.names.now old new c.loop-i.invariant.kept c.in-Ok.ensures.kept in
     let came = next_token bytes ts i t l (token_at ts i no_token t l) new (sentences cs) (state c.loop-i.state) u
     (λ ν a. c.loop-i.invariant.came ν (agrees-old old new c.in-Ok.ensures.kept ν a)) goes fits in
+    let counted = rw c.piece-text.ensures at c.in-Ok.ensures.counted in
+    let named : (j : ℕ) → Named c.args.names.now new (sentences cs) u j =
+    λ j. named-step c.args.names.now old new (sentences cs) (state c.loop-i.state) u (mark_of t.kind (piece bytes t.span)) j c.in-Ok.ensures.kept (c.loop-i.invariant.named j) counted in
     elim c.match-finished.branch [
       | in-Ok-finished+in_ok-push-in-Ok-finished w ↦
           let e : state c.match-finished.state ≡ begin = ap state w.state-is ∙ w.begin-state-in-Ok-finished.ensures in
           let f : c.match-finished.commands.items ≡ cs ++ (w.in-Ok-finished.command ∷ []) =
           ap (λ v. v.items) w.commands-is ∙ w.in_ok-push-in-Ok-finished.ensures.items in
           let ended = sentence_ends bytes ts i t new cs w.in-Ok-finished.command u w.in-Ok-finished.ensures.ended came in
-          record { came = λ ν a. rw (e, f) (ended ν a); moving = rw e tt; kept = kept }
+          record {
+            came = λ ν a. rw (e, f) (ended ν a);
+            moving = rw e tt;
+            kept = kept;
+            named = λ j.
+                subst (λ (x : State). Named c.args.names.now new (sentences c.match-finished.commands.items) x j) (sym e)
+                (subst (λ (x : List Command). Named c.args.names.now new (sentences x) begin j) (sym f)
+                (named-ended c.args.names.now new cs w.in-Ok-finished.command u j w.in-Ok-finished.ensures.ended (named j)));
+          }
       | in-Err-finished w ↦
           let e : state c.match-finished.state ≡ u = ap state w.state-is ∙ w.in-Err-finished.ensures.same in
           let f : c.match-finished.commands.items ≡ cs = ap (λ v. v.items) w.commands-is in
           let going = rw w.in-Err-finished.ensures.same at w.in-Err-finished.ensures.going in
           let goes_on = sentence_goes_on bytes ts i t new (sentences cs) u going came in
-          record { came = λ ν a. rw (e, f) (goes_on ν a); moving = rw e (going_moving u going); kept = kept }
+          record {
+            came = λ ν a. rw (e, f) (goes_on ν a);
+            moving = rw e (going_moving u going);
+            kept = kept;
+            named = λ j.
+                subst (λ (x : State). Named c.args.names.now new (sentences c.match-finished.commands.items) x j) (sym e)
+                (subst (λ (x : List Command). Named c.args.names.now new (sentences x) u j) (sym f) (named j));
+          }
     ]
 
 pub returns-then-whole-clause-read : goal.returns-then-whole-clause-read
@@ -81,3 +104,13 @@ returns-else-whole-clause-refused c =
     rw c.place.ensures
     (file_cut c.args.bytes.now c.args.tokens.now c.loop-i.i c.loop-i.names (sentences c.loop-i.commands.items) (state c.loop-i.state)
     (omega arith) c.loop-i.invariant.came c.loop-i.invariant.moving (sym c.is_begin-whole.ensures ∙ c.if-whole.false))
+
+pub returns-then-whole-clause-held : goal.returns-then-whole-clause-held
+returns-then-whole-clause-held c = λ i.
+    (named-all c.args.names.now c.loop-i.names (sentences c.loop-i.commands.items) (state c.loop-i.state) i
+    (at_begin (state c.loop-i.state) (sym c.is_begin-whole.ensures ∙ c.if-whole.true)) (c.loop-i.invariant.named i)).0
+
+pub returns-then-whole-clause-alone : goal.returns-then-whole-clause-alone
+returns-then-whole-clause-alone c = λ i.
+    (named-all c.args.names.now c.loop-i.names (sentences c.loop-i.commands.items) (state c.loop-i.state) i
+    (at_begin (state c.loop-i.state) (sym c.is_begin-whole.ensures ∙ c.if-whole.true)) (c.loop-i.invariant.named i)).1
