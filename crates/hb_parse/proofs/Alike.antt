@@ -1,17 +1,16 @@
 -- Whether there is a way on doesn't depend on what a token says.
-use Rattle.std.proofs.Common.{◌≡◌, ℕ, Bool, true, false, Option, Some, None, List, is_some, refl, cond}
+use Rattle.std.proofs.Common.{◌≡◌, ℕ, Bool, true, false, Some, List, is_some, refl, cond}
 use Rattle.hb_base.specs.declared.span.Span.{Span}
 use Rattle.hb_raw.specs.declared.word.Word.{Word}
-use Rattle.hb_raw.specs.declared.word.Item.{Item}
-use Rattle.hb_raw.specs.Preterm.{Preterm, Group, typed}
+use Rattle.hb_raw.specs.Preterm.{Preterm, Group}
 use Rattle.hb_grammar.specs.declared.mark.Mark.{Mark}
-use Rattle.hb_grammar.specs.declared.mark.Mark.TheVariants.{Ident, Pair, Axiom, Definition, Require, Prop, Universe, Forall, Fun, Hole, Open, Close, Brace, Unbrace, Colon, Becomes, Gives, Arrow, Comma, Semicolon, Ampersand, At, Project, End}
+use Rattle.hb_grammar.specs.declared.mark.Mark.TheVariants.{Ident, Pair, Axiom, Definition, Require, Prop, Universe, Forall, Fun, Hole, Open, Close, Brace, Unbrace, Colon, Becomes, Gives, Arrow, Comma, Semicolon, At, Project, End}
 use Rattle.hb_grammar.specs.declared.mark.Second.{Second}
 use Rattle.hb_grammar.specs.declared.mark.Second.TheVariants as second
 use Rattle.hb_grammar.specs.Leaf.{Sign}
 use Rattle.hb_grammar.specs.Part.{Part, arrow_part, product_part, function_part}
 use Rattle.hb_grammar.specs.Grammar.{Bounds, spine_part}
-use Rattle.hb_grammar.specs.Machine.{Before, first, behind, alone, making, filled, next, RecordOf, InstanceOf, Stack, right, inside, casting, lone, group_type, body, axiom_type, definition_type, definition_body, field_type, instance_value, build_value, carrier_found, Binding, of_product, of_function, of_definition, Listing, of_record, of_structure, Placing, of_factory, of_builder, State, begin, done, take, either, want, have, more, bare_begun, universe_at, projecting, binders, bares, groups, group_opened, group_names, items, fields, conditioned, condition_names, placing, place_names, words_begin, begins, argument, term_begins, closed, arrowed, applied_or_closed, after_argument, after_carrier, bare_named, after_universe_at, projection_named, first_binder, bound_to, after_bares, after_groups, after_group_open, after_group_names, after_items, after_fields, after_conditions, after_condition_names, after_placing, after_place_names, taken, same, step}
+use Rattle.hb_grammar.specs.Machine.{Before, first, behind, alone, making, filled, next, RecordOf, InstanceOf, Stack, right, inside, casting, lone, group_type, body, axiom_type, definition_type, definition_body, field_type, instance_value, build_value, carrier_found, Binding, of_product, of_function, of_definition, Placing, State, begin, done, take, either, want, have, more, bare_begun, universe_at, projecting, binders, bares, groups, group_opened, group_names, items, fields, conditioned, condition_names, placing, place_names, words_begin, begins, argument, term_begins, closed, applied_or_closed, after_argument, after_carrier, bare_named, after_universe_at, projection_named, first_binder, after_bares, after_groups, after_group_open, after_group_names, after_fields, after_condition_names, after_placing, after_place_names, taken, same, step}
 
 words_alike : (s : Second) (x y : Span) → is_some (words_begin s x) ≡ is_some (words_begin s y)
 words_alike second.Mixin x y = refl

@@ -1,8 +1,7 @@
 -- A file, from the reader's way through its tokens.
-use Rattle.std.proofs.Common.{◌≡◌, ℕ, ◌+◌, ◌-◌, ◌<◌, ◌≤◌, ◌^◌, Bool, true, false, cond, is_some, IsSome, zero, suc, List, [], ◌∷◌, ◌++◌, length, map, take, get_or, Option, Some, None, refl, sym, ap, ◌∙◌, subst, arith, slice_get, ◌⊎◌, inl, inr}
-use Rattle.std.proofs.lemmas.List.{take_more, take_all, get_or-map, length-map, append_assoc, append-nil, map-append}
+use Rattle.std.proofs.Common.{◌≡◌, ℕ, ◌+◌, ◌<◌, ◌≤◌, Bool, true, false, IsSome, zero, suc, List, [], ◌∷◌, ◌++◌, length, take, get_or, Option, Some, None, refl, sym, ap, ◌∙◌, subst, arith, slice_get}
+use Rattle.std.proofs.lemmas.List.{take_more, take_all, get_or-map, length-map, append_assoc, map-append}
 use Rattle.std.proofs.lemmas.Option.{slice_get-get_or}
-use Rattle.hb_base.specs.declared.span.Span.{Span}
 use Rattle.hb_raw.specs.declared.command.Command.{Command}
 use Rattle.hb_raw.specs.Sentence.{Sentence}
 use Rattle.hb_raw.specs.Views.{command, sentences}
@@ -10,20 +9,20 @@ use Rattle.hb_lex.specs.declared.token.Token.{Token}
 use Rattle.hb_lex.specs.declared.token.TokenKind.TheVariants as kind
 use Rattle.hb_grammar.specs.declared.mark.Mark.{Mark}
 use Rattle.hb_grammar.specs.Leaf.{Sign}
-use Rattle.hb_grammar.specs.Machine.{State, begin, done, step, read}
+use Rattle.hb_grammar.specs.Machine.{State, begin, done, step}
 use Rattle.hb_grammar.specs.Run.{finish}
-use Rattle.hb_grammar.specs.Places.{Seen, seen, Most, IsWithin, Front, Reads, SyntaxAt, DeepAt}
-use Rattle.hb_grammar.proofs.Unique.{IsMoving, moves}
-use Rattle.hb_grammar.proofs.Way.{Came, came-none, came-more, came-front, came-reads, came-syntax, came-cut, came-deep, settled, settle}
+use Rattle.hb_grammar.specs.Places.{Seen, seen, Front, SyntaxAt, DeepAt}
+use Rattle.hb_grammar.proofs.Unique.{IsMoving}
+use Rattle.hb_grammar.proofs.Way.{Came, came-more, came-front, came-reads, came-syntax, came-cut, came-deep, settled, settle}
 use Rattle.hb_reader.specs.States.{finished_in, is_between}
 use Rattle.hb_parse.specs.declared.turn.Stop.{Stop}
 use Rattle.hb_parse.specs.declared.turn.Stop.TheVariants.{Stuck, Deep, Full, NoMemory}
-use Rattle.hb_parse.specs.Marks.{piece, mark_of, first_part}
+use Rattle.hb_reader.specs.Needs.{need}
+use Rattle.hb_parse.proofs.Loads.{Load}
+use Rattle.hb_parse.proofs.Needed.{needed, lacked}
+use Rattle.hb_parse.specs.Marks.{piece, mark_of}
 use Rattle.hb_parse.specs.Signs.{Numbering, Agrees, sign_of, seen_of, file_of}
-use Rattle.hb_parse.specs.Numbers.{Extends, Lacks}
-use Rattle.hb_base.specs.Names.{is_named}
-use Rattle.hb_reader.specs.declared.need.Need.{Need}
-use Rattle.hb_reader.specs.declared.need.Need.TheVariants.{Nothing, Whole, First, Both}
+use Rattle.hb_parse.specs.Numbers.{Extends}
 use Rattle.hb_parse.specs.Answers.{limits, ReadsAs, IsSyntaxAt, Refuses, file_end, span_or, place_at}
 use Rattle.hb_parse.specs.Turns.{Fits, Goes, Stops, begun, refusal}
 
@@ -123,22 +122,15 @@ module _ (bytes : List ℕ) (ts : List Token) (i : ℕ) (t : Token) where
   placed : i < length ts → t ≡ get_or ts i t → place_at bytes ts i ≡ t.span
   placed l e = ap (span_or (file_end bytes ts)) (slice_get-get_or ts i t l ∙ ap Some (sym e))
 
-  lacking : (names : List (List ℕ)) (text : List ℕ) (need : Need) → Lacks names need text
-      → (is_named names text ≡ false) ⊎ (is_named names (first_part text) ≡ false)
-  lacking names text Nothing h = absurd h
-  lacking names text Whole h = inl h
-  lacking names text First h = inr h
-  lacking names text Both h = h
-
   pub stopped : i < length ts → t ≡ get_or ts i t → (names : List (List ℕ)) (cs : List Sentence) (s : State) (e : Stop)
-      → Arrived names cs s → IsMoving s → Stops names s mark (piece bytes t.span) e
+      → Arrived names cs s → IsMoving s → ((j : ℕ) → (n : ℕ) × Load j s n) → Stops names s mark (piece bytes t.span) e
       → Refuses names bytes ts (refusal bytes ts i e)
-  stopped l g names cs s Stuck came moving h = record {
+  stopped l g names cs s Stuck came moving loads h = record {
     index = i;
     place = refl;
     stops = λ ν a. came-syntax mark (sign ν) i (seen_of ν bytes t) (inside l ν) (stands l g ν) (came ν a) moving (h (sign ν));
   }
-  stopped l g names cs s (Deep late) came moving h = record {
+  stopped l g names cs s (Deep late) came moving loads h = record {
     index = begun late i;
     inside = begun_inside late l;
     place = refl;
@@ -147,22 +139,27 @@ module _ (bytes : List ℕ) (ts : List Token) (i : ℕ) (t : Token) where
         subst (λ (n : ℕ). DeepAt limits (file_of ν bytes ts) n) (h.2 i (sign ν))
         (came-deep mark (sign ν) next.0 i (seen_of ν bytes t) (inside l ν) (stands l g ν) (came ν a) next.1 (h.1 (sign ν)));
   }
-  stopped l g names cs s Full came moving h = (
-    refl,
-    record {
-      index = i;
-      inside = l;
-      place = refl;
-      begins = λ ν a.
-          let next = some_of (step s mark (sign ν)) (h.0 (sign ν)) in
-          subst (λ (x : List Seen). Front limits x) (sym (more_tokens ν bytes ts i t l g))
-          (came-front (came-more mark (sign ν) next.0 (came ν a) next.1 (h.1 (sign ν))));
-      full = h.2;
-      new = subst (λ (x : Span). (is_named names (piece bytes x) ≡ false) ⊎ (is_named names (first_part (piece bytes x)) ≡ false))
-          (sym (placed l g)) (lacking names (piece bytes t.span) h.3.0 h.3.1);
-    },
-  )
-  stopped l g names cs s NoMemory came moving h = tt
+  stopped l g names cs s Full came moving loads h =
+      let lack = lacked names (need s mark) (piece bytes t.span) h.3 in (
+        refl,
+        record {
+          index = i;
+          inside = l;
+          place = refl;
+          begins = λ ν a.
+              let next = some_of (step s mark (sign ν)) (h.0 (sign ν)) in
+              subst (λ (x : List Seen). Front limits x) (sym (more_tokens ν bytes ts i t l g))
+              (came-front (came-more mark (sign ν) next.0 (came ν a) next.1 (h.1 (sign ν))));
+          full = h.2;
+          text = lack.0;
+          needed = λ ν a ls ds more e f.
+              let load = loads (ν lack.0).0 in
+              needed (ν lack.0).0 mark (sign ν) load.0 (came ν a) moving load.1 (lack.2 ν) ls ds more
+              (e ∙ ap (λ x. x ++ more) (more_tokens ν bytes ts i t l g)) f;
+          absent = lack.1;
+        },
+      )
+  stopped l g names cs s NoMemory came moving loads h = tt
 
 -- the end of the file
 pub at_begin : (s : State) → is_between s ≡ true → s ≡ begin

@@ -6,3 +6,4 @@ pub mod FileLemmas
 pub mod Loads
 pub mod LoadSteps
 pub mod NamesLemmas
+pub mod Needed

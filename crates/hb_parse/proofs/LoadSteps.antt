@@ -1,5 +1,5 @@
 -- Each step of the reader holds what it held, and what it needs of the token.
-use Rattle.std.proofs.Common.{◌≡◌, ℕ, ◌+◌, ◌*◌, ◌<◌, ◌≤◌, zero, suc, ◌⊎◌, inl, inr, ap, ◌∙◌, Bool, true, false, cond, List, [], ◌∷◌, ◌++◌, length, Option, Some, None, refl, subst, arith, length-append}
+use Rattle.std.proofs.Common.{◌≡◌, ℕ, ◌+◌, ◌*◌, ◌<◌, ◌≤◌, zero, suc, inl, inr, ap, ◌∙◌, Bool, true, false, cond, List, [], ◌∷◌, ◌++◌, length, Some, None, refl, subst, arith, length-append}
 use Rattle.std.specs.List.{sum_by}
 use Rattle.std.proofs.lemmas.Bool.{cases_lt}
 use Rattle.std.proofs.lemmas.List.Sums.{sum_by-append}
@@ -13,12 +13,12 @@ use Rattle.hb_grammar.specs.declared.mark.Second.{Second}
 use Rattle.hb_grammar.specs.declared.mark.Second.TheVariants as second
 use Rattle.hb_grammar.specs.Leaf.{Sign, word, first_word, bound}
 use Rattle.hb_grammar.specs.Part.{Part, joined, arrow_part, product_part, function_part}
-use Rattle.hb_grammar.specs.Grammar.{Bounds, Spine, spine_part, item, conditions, record_act}
+use Rattle.hb_grammar.specs.Grammar.{Bounds, spine_part, item, conditions, record_act}
 use Rattle.hb_grammar.specs.Machine.{Before, first, behind, alone, making, filled, next, RecordOf, InstanceOf, Stack, right, inside, casting, lone, group_type, body, axiom_type, definition_type, definition_body, field_type, instance_value, build_value, carrier_found, Binding, of_product, of_function, of_definition, Listing, of_record, of_structure, Placing, of_factory, of_builder, State, begin, done, take, either, want, have, more, bare_begun, universe_at, projecting, binders, bares, groups, group_opened, group_names, items, fields, conditioned, condition_names, placing, place_names, bare_groups, carrier_begins, record_carried, builders_carried, record_ends, with_condition, placed, words_begin, begins, argument, term_begins, closed, arrowed, applied_or_closed, after_argument, after_carrier, bare_named, after_universe_at, projection_named, first_binder, bound_to, after_bares, after_groups, after_group_open, after_group_names, after_items, after_fields, after_conditions, after_condition_names, after_placing, after_place_names, taken, same, step}
 use Rattle.hb_grammar.proofs.Marks.{same_mark}
 use Rattle.hb_reader.specs.Needs.{row_need, name_need, need}
-use Rattle.hb_parse.specs.Uses.{act_uses, name_uses, bound_uses, term_uses, group_uses, word_uses, option_uses, item_uses, field_uses, binder_uses}
-use Rattle.hb_parse.proofs.Loads.{Alike, moved, alike, words_load, part_load, spine_load, before_load, record_load, instance_load, stack_load, binding_load, HaveLoad, listing_load, placing_load, weight, Load, Loads, push_load, groups_load, spine_part_load, filled_load, next_load, bares_load, conditions_load, carrier_load}
+use Rattle.hb_parse.specs.Uses.{act_uses, name_uses, bound_uses, group_uses, word_uses, item_uses, field_uses, binder_uses}
+use Rattle.hb_parse.proofs.Loads.{Alike, moved, alike, words_load, part_load, before_load, record_load, instance_load, stack_load, binding_load, HaveLoad, listing_load, placing_load, weight, Load, Loads, push_load, groups_load, spine_part_load, filled_load, next_load, bares_load, conditions_load, carrier_load}
 
 module _ (i : ℕ) where
   -- nothing more is held

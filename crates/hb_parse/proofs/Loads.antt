@@ -1,15 +1,12 @@
 -- How often a number stands in what the reader is in the middle of.
-use Rattle.std.proofs.Common.{◌≡◌, ℕ, ◌+◌, ◌<◌, Bool, true, false, List, [], ◌∷◌, ◌++◌, length, map, Option, Some, None, zero, suc, refl, ap, ◌∙◌, sym, arith}
-use Rattle.std.proofs.Common.{◌*◌, ◌⊎◌, inl, inr}
+use Rattle.std.proofs.Common.{◌≡◌, ℕ, ◌+◌, ◌<◌, Bool, true, false, List, [], ◌∷◌, ◌++◌, length, map, Option, Some, None, refl, arith}
+use Rattle.std.proofs.Common.{◌*◌, inl, inr}
 use Rattle.std.proofs.lemmas.Bool.{cases_lt}
 use Rattle.std.specs.List.{sum_by}
 use Rattle.std.proofs.lemmas.List.Sums.{sum_by-append}
-use Rattle.hb_base.specs.declared.name_id.NameId.{NameId}
 use Rattle.hb_base.specs.declared.span.Span.{Span}
 use Rattle.hb_raw.specs.declared.word.Word.{Word}
 use Rattle.hb_raw.specs.Preterm.{Preterm, preterms_of, Group, untyped, groups_of}
-use Rattle.hb_raw.specs.Sentence.{Sentence}
-use Rattle.hb_grammar.specs.declared.mark.Mark.{Mark}
 use Rattle.hb_grammar.specs.Leaf.{Sign}
 use Rattle.hb_grammar.specs.Part.{Part}
 use Rattle.hb_grammar.specs.Grammar.{Bounds, Spine, spine_part, applied_part, conditions, word_term, carrier_term}
@@ -17,7 +14,7 @@ use Rattle.hb_grammar.specs.Machine.{Before, first, behind, alone, making, fille
 use Rattle.hb_reader.specs.declared.need.Need.{Need}
 use Rattle.hb_reader.specs.Needs.{row_need}
 use Rattle.hb_parse.specs.Numbers.{number_uses}
-use Rattle.hb_parse.specs.Uses.{name_uses, bound_uses, term_uses, terms_uses, group_uses, groups_uses, word_uses, option_uses, item_uses, field_uses, binder_uses, sentence_uses}
+use Rattle.hb_parse.specs.Uses.{bound_uses, term_uses, terms_uses, group_uses, groups_uses, word_uses, option_uses, item_uses, field_uses, binder_uses, sentence_uses}
 
 -- both are zero, or neither
 pub record Alike (a n : ℕ) : Type 0 where

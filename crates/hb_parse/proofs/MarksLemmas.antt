@@ -1,5 +1,5 @@
 -- Lemmas on specs/Marks.antt: a name has a point where the first one is inside it.
-use Rattle.std.proofs.Common.{◌≡◌, ℕ, ◌+◌, Bool, true, false, cond, ltb, List, [], ◌∷◌, length, refl, ap, ◌∙◌, sym, ◌||◌, arith}
+use Rattle.std.proofs.Common.{◌≡◌, Bool, true, false, ltb, List, [], ◌∷◌, length, refl, arith}
 use Rattle.std.specs.List.{list_any, position_or_len}
 
 pub point_inside : {X : Type 0} (p : X → Bool) (xs : List X) → list_any p xs ≡ ltb (position_or_len p xs) (length xs)

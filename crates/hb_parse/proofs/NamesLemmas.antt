@@ -1,16 +1,14 @@
 -- The names after a file are those before it and the new ones of its commands.
-use Rattle.std.proofs.Common.{◌≡◌, ℕ, ◌+◌, ◌<◌, ◌≤◌, List, [], ◌∷◌, ◌++◌, length, map, Some, refl, sym, ap, ◌∙◌, subst, arith, length-append, inl, inr}
-use Rattle.std.specs.List.{sum_by}
+use Rattle.std.proofs.Common.{◌≡◌, ℕ, ◌+◌, ◌≤◌, List, [], ◌∷◌, ◌++◌, length, refl, ap, ◌∙◌, subst, arith, length-append, inl, inr}
 use Rattle.std.proofs.lemmas.Bool.{cases_lt}
 use Rattle.std.proofs.lemmas.List.{map-append}
 use Rattle.hb_raw.specs.declared.command.Command.{Command}
 use Rattle.hb_raw.specs.Sentence.{Sentence}
 use Rattle.hb_raw.specs.Views.{command, sentences}
 use Rattle.hb_grammar.specs.declared.mark.Mark.{Mark}
-use Rattle.hb_grammar.specs.Leaf.{Sign}
-use Rattle.hb_grammar.specs.Machine.{State, begin, done, step}
+use Rattle.hb_grammar.specs.Machine.{State, begin, done}
 use Rattle.hb_reader.specs.Needs.{need}
-use Rattle.hb_parse.specs.Numbers.{Extends, Counts, number_uses}
+use Rattle.hb_parse.specs.Numbers.{Extends, Counts}
 use Rattle.hb_parse.specs.Turns.{Counted}
 use Rattle.hb_parse.specs.Uses.{sentence_uses, uses}
 use Rattle.hb_parse.proofs.Loads.{Alike, weight, Load, Loads, push_load}

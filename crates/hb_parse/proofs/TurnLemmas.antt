@@ -1,5 +1,5 @@
 -- One token: from what the reader makes of the numbers that it was given to what it makes of all.
-use Rattle.std.proofs.Common.{◌≡◌, ℕ, ◌≤◌, List, length, Option, Some, None, is_some, IsSome, true, false, refl, sym, ap, ◌∙◌, subst}
+use Rattle.std.proofs.Common.{◌≡◌, ℕ, ◌≤◌, List, length, Option, Some, None, is_some, IsSome, refl, sym, ap, ◌∙◌, subst}
 use Rattle.hb_base.specs.declared.name_id.NameId.{NameId}
 use Rattle.hb_base.specs.declared.names.NamesRefused.{NamesRefused}
 use Rattle.hb_base.specs.declared.names.NamesRefused.TheVariants as faults
@@ -50,15 +50,15 @@ halts names s m text w (Deep late) h = (λ v. some_alike (step s m w) (step s m 
 halts names s m text w Full h = absurd h
 halts names s m text w NoMemory h = tt
 
-pub overfull : (names : List (List ℕ)) (s : State) (m : Mark) (text : List ℕ) (w : Sign) (need : Need) (fault : NamesRefused)
-    → (fault ≡ faults.TooMany → (65535 ≤ length names) × Lacks names need text)
+pub overfull : (names : List (List ℕ)) (s : State) (m : Mark) (text : List ℕ) (w : Sign) (d : Need) (fault : NamesRefused)
+    → (IsSome (step s m w) → d ≡ need s m) → (fault ≡ faults.TooMany → (65535 ≤ length names) × Lacks names d text)
     → (e : Stop) → Overfull s m w fault e → Stops names s m text e
-overfull names s m text w need fault full Full h =
+overfull names s m text w d fault exactly full Full h =
     let f = full h.0 in
-    (λ v. some_alike (step s m w) (step s m v) (moves_alike s m w v) h.1, h.2, f.0, (need, f.1))
-overfull names s m text w need fault full Stuck h = halts names s m text w Stuck h
-overfull names s m text w need fault full (Deep late) h = halts names s m text w (Deep late) h
-overfull names s m text w need fault full NoMemory h = tt
+    (λ v. some_alike (step s m w) (step s m v) (moves_alike s m w v) h.1, h.2, f.0, subst (λ (x : Need). Lacks names x text) (exactly h.1) f.1)
+overfull names s m text w d fault exactly full Stuck h = halts names s m text w Stuck h
+overfull names s m text w d fault exactly full (Deep late) h = halts names s m text w (Deep late) h
+overfull names s m text w d fault exactly full NoMemory h = tt
 
 pub counted : (old new : List (List ℕ)) (s t : State) (m : Mark) (w : Sign) (d : Need) → step s m w ≡ Some t
     → (IsSome (step s m w) → d ≡ need s m) → ((i : ℕ) → Counts i old new (number_uses i d w.whole w.first)) → Counted old new s m t

@@ -1,15 +1,16 @@
 -- What a file's tokens are answered: their commands, or why there are none, by the grammar alone.
-use Rattle.std.specs.Prelude.{◌≡◌, ℕ, ◌+◌, ◌^◌, ◌<◌, ◌≤◌, List, [], ◌∷◌, length, take, Option, Some, None, false, slice_get, ◌⊎◌}
+use Rattle.std.specs.Prelude.{◌≡◌, ℕ, ◌+◌, ◌^◌, ◌<◌, ◌≤◌, List, [], ◌∷◌, ◌++◌, length, take, Option, Some, None, false, slice_get}
 use Rattle.hb_base.specs.declared.span.Span.{Span}
 use Rattle.hb_base.specs.declared.count.Count.TheVariants as counts
 use Rattle.hb_base.specs.Names.{is_named}
 use Rattle.hb_raw.specs.Sentence.{Sentence}
 use Rattle.hb_lex.specs.declared.token.Token.{Token}
 use Rattle.hb_lex.specs.Text.{rules, HasTokens}
-use Rattle.hb_grammar.specs.Places.{Most, Reads, Front, SyntaxAt, DeepAt}
+use Rattle.hb_grammar.specs.Leaf.{Leaf}
+use Rattle.hb_grammar.specs.Grammar.{IsFile}
+use Rattle.hb_grammar.specs.Places.{Seen, tokens, Most, Reads, Front, SyntaxAt, DeepAt}
 use Rattle.hb_parse.specs.declared.error.ParseRefused.{ParseRefused}
 use Rattle.hb_parse.specs.declared.error.ParseRefused.TheVariants.{Syntax, TooDeep, TooMany, NoMemory}
-use Rattle.hb_parse.specs.Marks.{piece, first_part}
 use Rattle.hb_parse.specs.Uses.{uses}
 use Rattle.hb_parse.specs.Signs.{Numbering, Agrees, file_of}
 
@@ -58,15 +59,23 @@ pub record IsDeepAt (names : List (List ℕ)) (bytes : List ℕ) (ts : List Toke
   pub place : at ≡ place_at bytes ts index
   pub passes : (ν : Numbering) → Agrees ν names → DeepAt limits (file_of ν bytes ts) index
 
--- TooMany stands at a name that is new where 65,535 names are held; up to it the tokens begin a
--- file, within the limits
+-- each file that begins with the tokens up to number i has the text among its names
+abbrev pub IsNeeded : List (List ℕ) → List ℕ → List Token → ℕ → List ℕ → Type 0
+IsNeeded names bytes ts i text =
+    (ν : Numbering) → Agrees ν names → (ls : List Leaf) (cs : List Sentence) (more : List Seen)
+    → tokens ls ≡ take (i + 1) (file_of ν bytes ts) ++ more → IsFile ls cs [] → 0 < uses (ν text).0 cs
+
+-- TooMany stands at the first token that needs a new name where 65,535 are held; up to it the
+-- tokens begin a file, within the limits
 pub record IsFullAt (names : List (List ℕ)) (bytes : List ℕ) (ts : List Token) (at : Span) : Type 0 where
   pub index : ℕ
   pub inside : index < length ts
   pub place : at ≡ place_at bytes ts index
   pub begins : (ν : Numbering) → Agrees ν names → Front limits (take (index + 1) (file_of ν bytes ts))
   pub full : 65535 ≤ length names
-  pub new : (is_named names (piece bytes at) ≡ false) ⊎ (is_named names (first_part (piece bytes at)) ≡ false)
+  pub text : List ℕ
+  pub needed : IsNeeded names bytes ts index text
+  pub absent : is_named names text ≡ false
 
 -- why the tokens are refused, where these names are held
 abbrev pub Refuses : List (List ℕ) → List ℕ → List Token → ParseRefused → Type 0

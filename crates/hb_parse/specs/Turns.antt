@@ -1,5 +1,5 @@
 -- One token, by what the reader makes of it.
-use Rattle.std.specs.Prelude.{◌≡◌, ℕ, ◌-◌, ◌≤◌, Bool, List, length, cond, Option, Some, None, IsSome}
+use Rattle.std.specs.Prelude.{◌≡◌, ℕ, ◌-◌, ◌≤◌, Bool, List, length, cond, Some, None, IsSome}
 use Rattle.hb_base.specs.declared.span.Span.{Span}
 use Rattle.hb_base.specs.declared.names.NamesRefused.{NamesRefused}
 use Rattle.hb_base.specs.declared.names.NamesRefused.TheVariants as faults
@@ -8,7 +8,6 @@ use Rattle.hb_grammar.specs.declared.mark.Mark.{Mark}
 use Rattle.hb_grammar.specs.Leaf.{Sign}
 use Rattle.hb_grammar.specs.Machine.{State, step, read}
 use Rattle.hb_grammar.specs.Places.{IsWithin, place_of}
-use Rattle.hb_reader.specs.declared.need.Need.{Need}
 use Rattle.hb_reader.specs.Needs.{need}
 use Rattle.hb_parse.specs.declared.turn.Stop.{Stop}
 use Rattle.hb_parse.specs.declared.turn.Stop.TheVariants.{Stuck, Deep, Full, NoMemory}
@@ -59,7 +58,7 @@ Stops names s m text Stuck = (w : Sign) → step s m w ≡ None
 Stops names s m text (Deep late) = ((w : Sign) → IsSome (step s m w)) × Passes s m × ((n : ℕ) → IsLate s m n (begun late n))
 Stops names s m text Full =
     ((w : Sign) → IsSome (step s m w)) × Fits s m × (65535 ≤ length names)
-    × ((need : Need) × Lacks names need text)
+    × Lacks names (need s m) text
 Stops names s m text NoMemory = Unit {0}
 
 -- why the reader stops at a token with a name that gets no number

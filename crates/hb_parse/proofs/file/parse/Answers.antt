@@ -1,4 +1,4 @@
-use Rattle.std.proofs.Common.{◌≡◌, refl, sym, ap, ◌∙◌, subst, rules, length, get_or, arith, [], List, ℕ, ◌++◌, ◌∷◌}
+use Rattle.std.proofs.Common.{◌≡◌, sym, ap, ◌∙◌, subst, get_or, arith, [], List, ℕ, ◌++◌, ◌∷◌}
 use Rattle.std.specs.Str.{IsAscii}
 use Rattle.std.proofs.lemmas.List.{append-nil}
 use Rattle.hb_raw.specs.declared.command.Command.{Command}
@@ -7,9 +7,8 @@ use Rattle.hb_grammar.specs.Machine.{State, begin}
 use Rattle.hb_grammar.proofs.Unique.{IsMoving}
 use Rattle.hb_grammar.proofs.Way.{Came, came-none}
 use Rattle.hb_reader.specs.States.{state}
-use Rattle.hb_parse.specs.Answers.{limits, Refuses}
+use Rattle.hb_parse.specs.Answers.{limits}
 use Rattle.hb_parse.specs.Marks.{piece, mark_of}
-use Rattle.hb_parse.specs.Signs.{Numbering, Agrees}
 use Rattle.hb_parse.proofs.Ascii.{token_ascii}
 use Rattle.hb_parse.proofs.FileLemmas.{no_token, token_at, agrees-old, extends-more, next_token, sentence_ends, sentence_goes_on, going_moving, stopped, at_begin, file_read, file_cut}
 use Rattle.hb_parse.proofs.NamesLemmas.{Named, named-none, named-step, named-ended, named-all}
@@ -43,7 +42,8 @@ returns-in-Err-clause-refused c =
     let stops = rw c.piece-text.ensures at c.in-Err.ensures.stop in
     rw c.refused.ensures
     (stopped bytes ts i t l (token_at ts i no_token t l) c.turn.new.names (sentences c.loop-i.commands.items) (state c.loop-i.state) c.in-Err.stop
-    (λ ν a. c.loop-i.invariant.came ν (agrees-old c.loop-i.names c.turn.new.names c.in-Err.ensures.kept ν a)) c.loop-i.invariant.moving stops)
+    (λ ν a. c.loop-i.invariant.came ν (agrees-old c.loop-i.names c.turn.new.names c.in-Err.ensures.kept ν a)) c.loop-i.invariant.moving
+    (λ j. let named = c.loop-i.invariant.named j in (named.under_way, named.load)) stops)
 
 pub loop-i-preserved : goal.loop-i-preserved
 loop-i-preserved c =

@@ -1,4 +1,4 @@
-use Rattle.std.proofs.Common.{◌≡◌, ℕ, take}
+use Rattle.std.proofs.Common.{ℕ, take}
 use Rattle.hb_raw.specs.Views.{sentences}
 use Rattle.hb_grammar.proofs.Way.{Came}
 use Rattle.hb_grammar.proofs.Unique.{IsMoving}

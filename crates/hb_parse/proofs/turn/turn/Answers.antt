@@ -1,12 +1,10 @@
-use Rattle.std.proofs.Common.{◌≡◌, refl, sym, ap, ◌∙◌, Some, Err}
+use Rattle.std.proofs.Common.{◌≡◌, ap, ◌∙◌, Some, Err}
 use Rattle.std.proofs.lemmas.Result.{IfOk-weaker, IfErr-weaker}
-use Rattle.hb_base.specs.declared.names.NamesRefused.TheVariants as faults
 use Rattle.hb_grammar.specs.Leaf.{Sign}
 use Rattle.hb_grammar.specs.Machine.{step}
 use Rattle.hb_reader.specs.Signs.{sign}
 use Rattle.hb_reader.specs.States.{state}
 use Rattle.hb_parse.specs.Turns.{Counted, Halts, Overfull, Stops}
-use Rattle.hb_parse.specs.Marks.{mark_of}
 use Rattle.hb_parse.proofs.TurnLemmas.{counted, goes, halts, overfull}
 use Rattle.hb_parse.proofs.turn.turn.Goals as goal
 
@@ -46,7 +44,7 @@ returns-in-Err-clause-stop c =
     let w = sign c.unnamed.result in
     rw (← c.mark-mark.ensures) (IfErr-weaker c.overfull.result (λ e. Overfull s c.mark-mark.result w c.in-Err.fault e)
     (λ e. Stops c.numbers.new.names s c.mark-mark.result c.args.text.now e)
-    (overfull c.numbers.new.names s c.mark-mark.result c.args.text.now w c.needs.result c.in-Err.fault
+    (overfull c.numbers.new.names s c.mark-mark.result c.args.text.now w c.needs.result c.in-Err.fault (c.needs.ensures.exactly w)
     (λ f. c.numbers.ensures.too_many (c.in-Err.is ∙ ap Err f))) c.overfull.ensures.stop)
 
 pub returns-in-Err-clause-kept : goal.returns-in-Err-clause-kept
