@@ -1,5 +1,8 @@
 -- What the reader's values stand for.
+pub mod Views
 pub mod Signs
+-- Rows of known tokens.
+pub mod Rows
 pub mod States
 -- Which numbers of a token's names a step reads.
 pub mod Needs

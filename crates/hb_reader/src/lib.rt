@@ -1,10 +1,25 @@
 //! The reader of sentences: the machine of the grammar, token by token.
 #![tactic(auto)]
 
+mod binder;
+mod builders;
+mod carrier;
+mod fork;
+mod heads;
+mod instance;
 mod kind;
+mod listing;
+mod marks;
 mod need;
+mod part;
+mod queries;
+mod row;
 mod sign;
+mod spine;
+mod stack;
 mod state;
+mod structures;
+mod term;
 
 pub use need::Need;
 pub use sign::Sign;
