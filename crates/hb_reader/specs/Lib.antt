@@ -4,5 +4,7 @@ pub mod Signs
 -- Rows of known tokens.
 pub mod Rows
 pub mod States
+-- Parts of the reader's steps at arguments.
+pub mod Arguments
 -- Which numbers of a token's names a step reads.
 pub mod Needs

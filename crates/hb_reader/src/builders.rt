@@ -1,10 +1,12 @@
 //! What comes behind the carrier of `HB.builders`.
-ghost use Rattle.std.specs.Prelude.{◌≡◌};
-ghost use Rattle.hb_reader.specs.Rows.{builders_row};
+ghost use Rattle.std.specs.Prelude.{◌≡◌, option_map};
+ghost use Rattle.hb_grammar.specs.Machine as plain;
+ghost use Rattle.hb_reader.specs.Rows.{taking, builders_row};
 ghost use Rattle.hb_reader.specs.Signs.{sign};
 ghost use Rattle.hb_reader.specs.States.{kind};
 
 use super::kind::{Kind, finish};
+use super::marks::same;
 use super::row::Row;
 use super::sign::Sign;
 use hb_base::Span;
@@ -86,6 +88,17 @@ impl BuildersRow {
                 let var = None;
                 finish(x, CommandKind::Builders { carrier, var, item })
             }
+        }
+    }
+
+    /// What comes behind a token; `None` where another has to come.
+    pub fn after(self, mark: Mark, token: Sign) -> Option<Kind>
+        ensures { option_map kind result ≡ plain.step (taking (builders_row self)) mark (sign token) }
+    {
+        if same(self.mark(), mark) {
+            Some(self.behind(token))
+        } else {
+            None
         }
     }
 }

@@ -1,11 +1,13 @@
 //! Carriers without arguments, and what comes before them.
-ghost use Rattle.std.specs.Prelude.{◌≡◌};
-ghost use Rattle.hb_reader.specs.Rows.{carrier_row, carried};
+ghost use Rattle.std.specs.Prelude.{◌≡◌, option_map};
+ghost use Rattle.hb_grammar.specs.Machine as plain;
+ghost use Rattle.hb_reader.specs.Rows.{taking, carrier_row, carried};
 ghost use Rattle.hb_reader.specs.Signs.{sign};
 ghost use Rattle.hb_reader.specs.States.{kind};
 
 use super::fork::Fork;
 use super::kind::Kind;
+use super::marks::same;
 use super::row::Row;
 use super::sign::Sign;
 use hb_base::Span;
@@ -108,6 +110,17 @@ impl CarrierRow {
             CarrierRow::Colon(of, w) => Kind::Row(Row::Carrier(CarrierRow::Universe(of, w))),
             CarrierRow::Universe(of, w) => Kind::Row(Row::Carrier(CarrierRow::Close(of, w))),
             CarrierRow::Close(of, w) => of.carried(w),
+        }
+    }
+
+    /// What comes behind a token; `None` where another has to come.
+    pub fn after(self, mark: Mark, token: Sign) -> Option<Kind>
+        ensures { option_map kind result ≡ plain.step (taking (carrier_row self)) mark (sign token) }
+    {
+        if same(self.mark(), mark) {
+            Some(self.behind(token))
+        } else {
+            None
         }
     }
 }

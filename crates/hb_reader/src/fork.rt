@@ -1,8 +1,8 @@
 //! Places where one of two tokens has to come.
-ghost use Rattle.std.specs.Prelude.{◌≡◌, []};
+ghost use Rattle.std.specs.Prelude.{◌≡◌, [], option_map};
 ghost use Rattle.hb_grammar.specs.Leaf as leaf;
 ghost use Rattle.hb_grammar.specs.Machine as plain;
-ghost use Rattle.hb_reader.specs.Rows.{first_way, second_way};
+ghost use Rattle.hb_reader.specs.Rows.{forking, first_way, second_way};
 ghost use Rattle.hb_reader.specs.Signs.{sign};
 ghost use Rattle.hb_reader.specs.States.{kind};
 
@@ -11,6 +11,7 @@ use super::carrier::{CarrierRow, Carrying};
 use super::instance::InstanceState;
 use super::kind::{Kind, finish};
 use super::listing::{ListState, Listing};
+use super::marks::same;
 use super::queries::QueryRow;
 use super::row::Row;
 use super::sign::Sign;
@@ -147,6 +148,30 @@ impl Fork {
             Fork::Builders(x, c) => Kind::Row(Row::Builders(BuildersRow::OfFactory(x, c))),
             Fork::InstanceName(x) => instance_named(alloc, x, None),
             Fork::Require(x) => Kind::Row(Row::Query(QueryRow::RequireImported(x))),
+        }
+    }
+
+    /// What comes behind a token; `None` where another has to come.
+    pub fn after(self, alloc: Global, mark: Mark, token: Sign) -> Option<Kind>
+        ensures { option_map kind result ≡ plain.step (forking self) mark (sign token) }
+    {
+        if same(self.first_mark(), mark) {
+            Some(self.behind_first(alloc, token))
+        } else if same(self.second_mark(), mark) {
+            Some(self.behind_second(alloc))
+        } else {
+            None
+        }
+    }
+
+    /// The brackets around a token.
+    pub fn nesting(self, mark: Mark) -> u32
+        ensures { (w : leaf.Sign) → plain.read (forking self) mark w ≡ leaf.leaf mark w result 0 }
+    {
+        if same(self.first_mark(), mark) {
+            self.first_nesting()
+        } else {
+            self.second_nesting()
         }
     }
 }

@@ -1,11 +1,13 @@
 //! The first tokens of an axiom, and of a definition.
-ghost use Rattle.std.specs.Prelude.{◌≡◌};
-ghost use Rattle.hb_reader.specs.Rows.{head_row};
+ghost use Rattle.std.specs.Prelude.{◌≡◌, option_map};
+ghost use Rattle.hb_grammar.specs.Machine as plain;
+ghost use Rattle.hb_reader.specs.Rows.{taking, head_row};
 ghost use Rattle.hb_reader.specs.Signs.{sign};
 ghost use Rattle.hb_reader.specs.States.{kind};
 
 use super::binder::BinderState;
 use super::kind::Kind;
+use super::marks::same;
 use super::row::Row;
 use super::sign::Sign;
 use super::spine::Before;
@@ -48,6 +50,17 @@ impl HeadRow {
                 let name = Binding::Definition(x, token.word());
                 Kind::Binder(BinderState::Groups(name, Vec::new(alloc)))
             }
+        }
+    }
+
+    /// What comes behind a token; `None` where another has to come.
+    pub fn after(self, alloc: Global, mark: Mark, token: Sign) -> Option<Kind>
+        ensures { option_map kind result ≡ plain.step (taking (head_row self)) mark (sign token) }
+    {
+        if same(self.mark(), mark) {
+            Some(self.behind(alloc, token))
+        } else {
+            None
         }
     }
 }

@@ -1,10 +1,14 @@
 //! The reader of sentences: the machine of the grammar, token by token.
 #![tactic(auto)]
 
+mod argument;
 mod binder;
 mod builders;
 mod carrier;
+mod closing;
+mod following;
 mod fork;
+mod groups;
 mod heads;
 mod instance;
 mod kind;

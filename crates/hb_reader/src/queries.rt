@@ -1,10 +1,12 @@
 //! Commands of names alone.
-ghost use Rattle.std.specs.Prelude.{◌≡◌};
-ghost use Rattle.hb_reader.specs.Rows.{query_row};
+ghost use Rattle.std.specs.Prelude.{◌≡◌, option_map};
+ghost use Rattle.hb_grammar.specs.Machine as plain;
+ghost use Rattle.hb_reader.specs.Rows.{taking, query_row};
 ghost use Rattle.hb_reader.specs.Signs.{sign};
 ghost use Rattle.hb_reader.specs.States.{kind};
 
 use super::kind::{Kind, finish};
+use super::marks::same;
 use super::row::Row;
 use super::sign::Sign;
 use super::spine::Before;
@@ -56,6 +58,17 @@ impl QueryRow {
                 finish(x, CommandKind::Howto { structure, carrier: word })
             }
             QueryRow::AboutName(x) => finish(x, CommandKind::About { name: word }),
+        }
+    }
+
+    /// What comes behind a token; `None` where another has to come.
+    pub fn after(self, mark: Mark, token: Sign) -> Option<Kind>
+        ensures { option_map kind result ≡ plain.step (taking (query_row self)) mark (sign token) }
+    {
+        if same(self.mark(), mark) {
+            Some(self.behind(token))
+        } else {
+            None
         }
     }
 }

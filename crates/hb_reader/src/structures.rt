@@ -1,11 +1,13 @@
 //! The first tokens of a structure, and of an instance.
-ghost use Rattle.std.specs.Prelude.{◌≡◌};
-ghost use Rattle.hb_reader.specs.Rows.{structure_row};
+ghost use Rattle.std.specs.Prelude.{◌≡◌, option_map};
+ghost use Rattle.hb_grammar.specs.Machine as plain;
+ghost use Rattle.hb_reader.specs.Rows.{taking, structure_row};
 ghost use Rattle.hb_reader.specs.Signs.{sign};
 ghost use Rattle.hb_reader.specs.States.{kind};
 
 use super::fork::Fork;
 use super::kind::Kind;
+use super::marks::same;
 use super::listing::{ListState, Listing};
 use super::row::Row;
 use super::sign::Sign;
@@ -64,6 +66,17 @@ impl StructureRow {
                 Kind::List(ListState::Factory(of, Vec::new(alloc)))
             }
             StructureRow::Instance(x) => Kind::Row(Row::Fork(Fork::InstanceName(x))),
+        }
+    }
+
+    /// What comes behind a token; `None` where another has to come.
+    pub fn after(self, alloc: Global, mark: Mark, token: Sign) -> Option<Kind>
+        ensures { option_map kind result ≡ plain.step (taking (structure_row self)) mark (sign token) }
+    {
+        if same(self.mark(), mark) {
+            Some(self.behind(alloc, token))
+        } else {
+            None
         }
     }
 }

@@ -1,8 +1,23 @@
 //! Terms.
-use super::part::Part;
+ghost use Rattle.std.specs.Prelude.{◌≡◌, IfOk, option_map};
+ghost use Rattle.hb_grammar.specs.Machine as plain;
+ghost use Rattle.hb_reader.specs.declared.term.TermState.TheVariants as terms;
+ghost use Rattle.hb_reader.specs.Signs.{sign};
+ghost use Rattle.hb_reader.specs.States.{kind, term_state};
+ghost use Rattle.hb_reader.specs.Views.{part, before, stack};
+
+use super::argument::{argument, bare_named, wanted};
+use super::closing::closed;
+use super::following::after_argument;
+use super::kind::Kind;
+use super::marks::same;
+use super::part::{Part, level_part, projected_part};
+use super::sign::Sign;
 use super::spine::Before;
 use super::stack::Stack;
 use hb_base::{NameId, Span};
+use hb_grammar::Mark;
+use std::alloc::{AllocError, Global};
 
 /// A place in a term.
 #[derive(Drop)]
@@ -23,4 +38,153 @@ pub enum TermState {
     /// Behind `.(`.
     Projecting(Before, Part, Stack),
     ProjectClose(Before, Part, NameId, Stack),
+}
+
+/// A term that has been read up to an argument.
+pub fn have(b: Before, a: Part, around: Stack) -> Kind
+    ensures { kind result ≡ plain.have (before b) (part a) false (stack around) }
+{
+    Kind::Term(TermState::Have(b, a, false, around))
+}
+
+/// A term that has to come.
+pub fn want(around: Stack) -> Kind
+    ensures { kind result ≡ plain.want plain.first (stack around) }
+{
+    Kind::Term(TermState::Want(Before::First, around))
+}
+
+/// Behind the carrier of a builder.
+fn after_carrier(
+    alloc: Global,
+    b: Before,
+    around: Stack,
+    mark: Mark,
+    token: Sign,
+) -> Result<Option<Kind>, AllocError>
+    ensures { IfOk result (λ o. option_map kind o ≡ plain.after_carrier (before b) (stack around) mark (sign token)) }
+{
+    match b {
+        Before::Making(s) => match mark {
+            Mark::End => {
+                let value = s.into_part(alloc)?;
+                closed(alloc, around, Mark::End, value, token)
+            }
+            _ => argument(alloc, Before::Making(s), around, mark, token),
+        },
+        _ => Ok(None),
+    }
+}
+
+/// Behind `Type @`.
+fn after_universe_at(
+    alloc: Global,
+    b: Before,
+    a: Part,
+    at: Span,
+    around: Stack,
+    mark: Mark,
+    token: Sign,
+) -> Result<Option<Kind>, AllocError>
+    ensures { IfOk result (λ o. option_map kind o ≡ plain.after_universe_at (before b) (part a) at (stack around) mark (sign token)) }
+{
+    match mark {
+        Mark::Brace => Ok(Some(Kind::Term(TermState::Level(b, a, around)))),
+        _ => match b {
+            Before::Alone => Ok(None),
+            other => {
+                let next = other.next(alloc, a)?;
+                Ok(bare_named(next, at, around, mark, token))
+            }
+        },
+    }
+}
+
+/// Behind `Type @ {`.
+fn after_level(b: Before, a: Part, around: Stack, mark: Mark, token: Sign) -> Option<Kind>
+    ensures { option_map kind result ≡ plain.step (plain.level_begins (before b) (part a) (stack around)) mark (sign token) }
+{
+    if same(Mark::Number, mark) {
+        Some(Kind::Term(TermState::LevelClose(b, a, token.value, around)))
+    } else {
+        None
+    }
+}
+
+/// Behind the number of a level.
+fn after_number(
+    b: Before,
+    a: Part,
+    level: u8,
+    around: Stack,
+    mark: Mark,
+    token: Sign,
+) -> Option<Kind>
+    ensures { option_map kind result ≡ plain.step (term_state (terms.LevelClose b a level around)) mark (sign token) }
+{
+    if same(Mark::Unbrace, mark) {
+        Some(have(b, level_part(a, level, token.place), around))
+    } else {
+        None
+    }
+}
+
+/// Behind `.(`.
+fn after_project(b: Before, a: Part, around: Stack, mark: Mark, token: Sign) -> Option<Kind>
+    ensures { option_map kind result ≡ plain.projection_named (before b) (part a) (stack around) mark (sign token) }
+{
+    match mark {
+        Mark::Ident | Mark::Pair(_) => {
+            Some(Kind::Term(TermState::ProjectClose(b, a, token.whole, around)))
+        }
+        _ => None,
+    }
+}
+
+/// Behind the name of a projection.
+fn after_projection(
+    alloc: Global,
+    b: Before,
+    a: Part,
+    name: NameId,
+    around: Stack,
+    mark: Mark,
+    token: Sign,
+) -> Result<Option<Kind>, AllocError>
+    ensures { IfOk result (λ o. option_map kind o ≡ plain.step (plain.projected_name (before b) (part a) (stack around) name) mark (sign token)) }
+{
+    if same(Mark::Close, mark) {
+        let projected = projected_part(alloc, a, name, token.place)?;
+        Ok(Some(have(b, projected, around)))
+    } else {
+        Ok(None)
+    }
+}
+
+impl TermState {
+    /// What comes behind a token; `None` where there is no way on.
+    pub fn after(
+        self,
+        alloc: Global,
+        mark: Mark,
+        token: Sign,
+    ) -> Result<Option<Kind>, AllocError>
+        ensures { IfOk result (λ o. option_map kind o ≡ plain.step (term_state self) mark (sign token)) }
+    {
+        match self {
+            TermState::Want(b, k) => wanted(alloc, b, k, mark, token),
+            TermState::Have(b, a, e, k) => after_argument(alloc, b, a, e, k, mark, token),
+            TermState::More(b, k) => after_carrier(alloc, b, k, mark, token),
+            TermState::Bare(b, x, k) => Ok(bare_named(b, x, k, mark, token)),
+            TermState::UniverseAt(b, a, x, k) => {
+                after_universe_at(alloc, b, a, x, k, mark, token)
+            }
+            TermState::Level(b, a, k) => Ok(after_level(b, a, k, mark, token)),
+            TermState::LevelClose(b, a, n, k) => Ok(after_number(b, a, n, k, mark, token)),
+            TermState::Projecting(b, a, k) => Ok(after_project(b, a, k, mark, token)),
+            TermState::ProjectClose(b, a, n, k) => {
+                after_projection(alloc, b, a, n, k, mark, token)
+            }
+        }
+    }
 }
