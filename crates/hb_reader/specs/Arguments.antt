@@ -1,9 +1,11 @@
 -- Parts of the reader's steps at arguments.
 use Rattle.std.specs.Prelude.{Bool, true, false, Option, Some, None}
+use Rattle.hb_base.specs.declared.span.Span.{Span}
 use Rattle.hb_grammar.specs.declared.mark.Mark.{Mark}
 use Rattle.hb_grammar.specs.declared.mark.Mark.TheVariants.{Ident, Pair, Prop, Universe, Hole, Open, At}
 use Rattle.hb_grammar.specs.Leaf.{Sign}
 use Rattle.hb_grammar.specs.Part.{Part}
+use Rattle.hb_grammar.specs.Grammar as grammar
 use Rattle.hb_grammar.specs.Machine as plain
 
 -- the first token of an argument without parentheses
@@ -26,3 +28,30 @@ begins_argument m = false
 abbrev pub applied : plain.Before → Part → plain.Stack → Mark → Sign → Option plain.State
 applied plain.alone a k m w = None
 applied b a k m w = plain.argument (plain.next b a) k m w
+
+-- what stands before an argument
+abbrev pub is_first : plain.Before → Bool
+is_first plain.first = true
+is_first b = false
+
+abbrev pub takes_arrow : plain.Before → Bool
+takes_arrow plain.first = true
+takes_arrow (plain.behind s) = true
+takes_arrow b = false
+
+abbrev pub is_alone : plain.Before → Bool
+is_alone plain.alone = true
+is_alone b = false
+
+abbrev pub is_making : plain.Before → Bool
+is_making (plain.making s) = true
+is_making b = false
+
+-- the term before a token that ends it
+abbrev pub ending : plain.Before → Part → plain.Stack → Mark → Sign → Option plain.State
+ending b a k m w = plain.closed k m (grammar.spine_part (plain.filled b a)) w
+
+-- a name behind `Type @`
+abbrev pub bare_behind : plain.Before → Part → Span → plain.Stack → Mark → Sign → Option plain.State
+bare_behind plain.alone a x k m w = None
+bare_behind b a x k m w = plain.bare_named (plain.next b a) x k m w

@@ -100,13 +100,12 @@ fn product_begins(
 ) -> Result<Option<Kind>, AllocError>
     ensures { IfOk result (λ o. option_map kind o ≡ plain.term_begins (before b) (stack around) Forall (sign token)) }
 {
-    match b {
-        Before::First => {
-            let around = Box::new(alloc, around)?;
-            let of = Binding::Product(token.place, around);
-            Ok(Some(Kind::Binder(BinderState::First(of))))
-        }
-        _ => Ok(None),
+    if b.is_first() {
+        let around = Box::new(alloc, around)?;
+        let of = Binding::Product(token.place, around);
+        Ok(Some(Kind::Binder(BinderState::First(of))))
+    } else {
+        Ok(None)
     }
 }
 
@@ -119,12 +118,11 @@ fn function_begins(
 ) -> Result<Option<Kind>, AllocError>
     ensures { IfOk result (λ o. option_map kind o ≡ plain.term_begins (before b) (stack around) Fun (sign token)) }
 {
-    match b {
-        Before::First => {
-            let around = Box::new(alloc, around)?;
-            let of = Binding::Function(token.place, around);
-            Ok(Some(Kind::Binder(BinderState::First(of))))
-        }
-        _ => Ok(None),
+    if b.is_first() {
+        let around = Box::new(alloc, around)?;
+        let of = Binding::Function(token.place, around);
+        Ok(Some(Kind::Binder(BinderState::First(of))))
+    } else {
+        Ok(None)
     }
 }

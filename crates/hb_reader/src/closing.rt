@@ -23,46 +23,8 @@ use hb_grammar::Mark;
 use hb_raw::{Binder, Command, CommandKind, Field, Raw, Word};
 use std::alloc::{AllocError, Global};
 
-/// The token behind a term; `None` where there is no way on.
-pub fn closed(
-    alloc: Global,
-    around: Stack,
-    mark: Mark,
-    p: Part,
-    token: Sign,
-) -> Result<Option<Kind>, AllocError>
-    ensures { IfOk result (λ o. option_map kind o ≡ plain.closed (stack around) mark (part p) (sign token)) }
-{
-    match around {
-        Stack::Right(a, k) => {
-            let arrow = arrow_part(alloc, a, p)?;
-            closed(alloc, Box::into_inner(k), mark, arrow, token)
-        }
-        Stack::Body(Binding::Product(x, k), gs) => {
-            let product = product_part(alloc, x, gs, p)?;
-            closed(alloc, Box::into_inner(k), mark, product, token)
-        }
-        Stack::Body(Binding::Function(x, k), gs) => {
-            let function = function_part(alloc, x, gs, p)?;
-            closed(alloc, Box::into_inner(k), mark, function, token)
-        }
-        Stack::Body(Binding::Definition(_, _), _) => Ok(None),
-        Stack::Lone(b, xs) => closed_lone(alloc, b, xs, mark, p),
-        Stack::Inside(b, x, k) => closed_inside(b, x, k, mark, p, token),
-        Stack::Casting(b, x, t, k) => closed_cast(alloc, b, x, t, k, mark, p, token),
-        Stack::GroupType(b, gs, xs) => closed_group(b, gs, xs, mark, p),
-        Stack::AxiomType(x, n) => Ok(closed_axiom(x, n, mark, p)),
-        Stack::DefinitionType(x, n, gs) => Ok(closed_type(x, n, gs, mark, p)),
-        Stack::DefinitionBody(x, n, gs, t) => Ok(closed_definition(x, n, gs, t, mark, p)),
-        Stack::FieldType(r, fs, f) => closed_field(r, fs, f, mark, p),
-        Stack::InstanceValue(i, f, k, ws) => Ok(closed_instance(i, f, k, ws, mark, p)),
-        Stack::BuildValue(i, f, k, ws) => Ok(closed_instance(i, f, k, ws, mark, p)),
-        Stack::CarrierFound(x, s) => Ok(closed_find(x, s, mark, p)),
-    }
-}
-
 /// Behind the type of a lone list of binders.
-fn closed_lone(
+pub fn closed_lone(
     alloc: Global,
     b: Binding,
     xs: Bounds,
@@ -93,28 +55,28 @@ fn closed_lone(
 }
 
 /// Behind a term in parentheses.
-fn closed_inside(
+pub fn closed_inside(
     b: Before,
     start: Span,
     around: Box<Stack>,
     mark: Mark,
     p: Part,
     token: Sign,
-) -> Result<Option<Kind>, AllocError>
-    ensures { IfOk result (λ o. option_map kind o ≡ plain.closed (plain.inside (before b) start (stack around.value)) mark (part p) (sign token)) }
+) -> Option<Kind>
+    ensures { option_map kind result ≡ plain.closed (plain.inside (before b) start (stack around.value)) mark (part p) (sign token) }
 {
     match mark {
         Mark::Close => {
             let term = bracketed(start, p, token.place);
-            Ok(Some(have(b, term, Box::into_inner(around))))
+            Some(have(b, term, Box::into_inner(around)))
         }
-        Mark::Colon => Ok(Some(want(Stack::Casting(b, start, p, around)))),
-        _ => Ok(None),
+        Mark::Colon => Some(want(Stack::Casting(b, start, p, around))),
+        _ => None,
     }
 }
 
 /// Behind the type of a cast.
-fn closed_cast(
+pub fn closed_cast(
     alloc: Global,
     b: Before,
     start: Span,
@@ -136,7 +98,7 @@ fn closed_cast(
 }
 
 /// Behind the type of a group.
-fn closed_group(
+pub fn closed_group(
     b: Binding,
     gs: Vec<Binder>,
     xs: Bounds,
@@ -155,7 +117,7 @@ fn closed_group(
 }
 
 /// Behind the type of an axiom.
-fn closed_axiom(start: Span, name: Word, mark: Mark, p: Part) -> Option<Kind>
+pub fn closed_axiom(start: Span, name: Word, mark: Mark, p: Part) -> Option<Kind>
     ensures { (w : leaf.Sign) → option_map kind result ≡ plain.closed (plain.axiom_type start name) mark (part p) w }
 {
     match mark {
@@ -165,7 +127,7 @@ fn closed_axiom(start: Span, name: Word, mark: Mark, p: Part) -> Option<Kind>
 }
 
 /// Behind the type of a definition.
-fn closed_type(
+pub fn closed_type(
     start: Span,
     name: Word,
     gs: Vec<Binder>,
@@ -181,7 +143,7 @@ fn closed_type(
 }
 
 /// Behind the body of a definition.
-fn closed_definition(
+pub fn closed_definition(
     start: Span,
     name: Word,
     binders: Vec<Binder>,
@@ -207,7 +169,7 @@ fn closed_definition(
 }
 
 /// Behind the type of a field.
-fn closed_field(
+pub fn closed_field(
     r: RecordOf,
     fs: Vec<Field>,
     name: Word,
@@ -238,7 +200,7 @@ fn with_field(mut fs: Vec<Field>, name: Word, ty: Raw) -> Result<Vec<Field>, All
 }
 
 /// Behind the value of an instance.
-fn closed_instance(
+pub fn closed_instance(
     of: InstanceOf,
     factory: Word,
     carrier: Word,
@@ -266,7 +228,7 @@ fn closed_instance(
 }
 
 /// Behind the carrier of a find.
-fn closed_find(start: Span, structure: Word, mark: Mark, p: Part) -> Option<Kind>
+pub fn closed_find(start: Span, structure: Word, mark: Mark, p: Part) -> Option<Kind>
     ensures { (w : leaf.Sign) → option_map kind result ≡ plain.closed (plain.carrier_found start structure) mark (part p) w }
 {
     match mark {

@@ -2,13 +2,12 @@
 ghost use Rattle.std.specs.Prelude.{◌≡◌, Some, IfOk, option_map};
 ghost use Rattle.hb_grammar.specs.Grammar as grammar;
 ghost use Rattle.hb_grammar.specs.Machine as plain;
-ghost use Rattle.hb_reader.specs.Arguments.{begins_argument, applied};
+ghost use Rattle.hb_reader.specs.Arguments.{begins_argument, applied, ending};
 ghost use Rattle.hb_reader.specs.Signs.{sign};
 ghost use Rattle.hb_reader.specs.States.{kind};
 ghost use Rattle.hb_reader.specs.Views.{part, before, stack};
 
 use super::argument::argument;
-use super::closing::closed;
 use super::kind::Kind;
 use super::part::Part;
 use super::sign::Sign;
@@ -40,13 +39,11 @@ fn applied(
 ) -> Result<Option<Kind>, AllocError>
     ensures { IfOk result (λ o. option_map kind o ≡ applied (before b) (part a) (stack around) mark (sign token)) }
 {
-    match b {
-        Before::Alone => Ok(None),
-        other => {
-            let next = other.next(alloc, a)?;
-            argument(alloc, next, around, mark, token)
-        }
+    if b.is_alone() {
+        return Ok(None);
     }
+    let next = b.next(alloc, a)?;
+    argument(alloc, next, around, mark, token)
 }
 
 /// The term ends before the token.
@@ -58,11 +55,11 @@ fn ended(
     mark: Mark,
     token: Sign,
 ) -> Result<Option<Kind>, AllocError>
-    ensures { IfOk result (λ o. option_map kind o ≡ plain.closed (stack around) mark (grammar.spine_part (plain.filled (before b) (part a))) (sign token)) }
+    ensures { IfOk result (λ o. option_map kind o ≡ ending (before b) (part a) (stack around) mark (sign token)) }
 {
     let filled = b.filled(alloc, a)?;
     let term = filled.into_part(alloc)?;
-    closed(alloc, around, mark, term, token)
+    around.closed(alloc, mark, term, token)
 }
 
 /// An arrow behind a term without one.
@@ -74,10 +71,10 @@ fn arrowed(
 ) -> Result<Option<Kind>, AllocError>
     ensures { IfOk result (λ o. option_map kind o ≡ plain.arrowed (before b) (part a) (stack around)) }
 {
-    match b {
-        Before::First => arrow_behind(alloc, Before::First, a, around),
-        Before::Behind(s) => arrow_behind(alloc, Before::Behind(s), a, around),
-        _ => Ok(None),
+    if b.takes_arrow() {
+        arrow_behind(alloc, b, a, around)
+    } else {
+        Ok(None)
     }
 }
 

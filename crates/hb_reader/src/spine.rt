@@ -1,7 +1,8 @@
 //! Applications that are being read.
-ghost use Rattle.std.specs.Prelude.{◌≡◌, IfOk};
+ghost use Rattle.std.specs.Prelude.{◌≡◌, true, IfOk};
 ghost use Rattle.hb_grammar.specs.Grammar as grammar;
 ghost use Rattle.hb_grammar.specs.Machine as spec;
+ghost use Rattle.hb_reader.specs.Arguments.{is_first, takes_arrow, is_alone, is_making};
 ghost use Rattle.hb_reader.specs.Views.{part, spine, before};
 
 use super::part::{Part, joined};
@@ -18,7 +19,6 @@ pub struct Spine {
 }
 
 /// What stands before the argument that is read.
-#[derive(Drop)]
 pub enum Before {
     First,
     /// A function with arguments.
@@ -29,7 +29,17 @@ pub enum Before {
     Making(Spine),
 }
 
+impl Drop for Before {
+    fn drop(self) {
+        match self {
+            Before::First | Before::Alone => {}
+            Before::Behind(_) | Before::Making(_) => {}
+        }
+    }
+}
+
 impl Spine {
+    /// A head without arguments.
     pub fn head(alloc: Global, head: Part) -> Spine
         ensures { spine result ≡ grammar.head_spine (part head) }
     {
@@ -41,6 +51,7 @@ impl Spine {
         }
     }
 
+    /// One more argument.
     pub fn with_argument(mut self, a: Part) -> Result<Spine, AllocError>
         ensures { IfOk result (λ s. spine s ≡ grammar.with_argument (spine self) (part a)) }
     {
@@ -49,6 +60,7 @@ impl Spine {
         Ok(self)
     }
 
+    /// The application, or the head alone.
     pub fn into_part(self, alloc: Global) -> Result<Part, AllocError>
         ensures { IfOk result (λ p. part p ≡ grammar.spine_part (spine self)) }
     {
@@ -66,6 +78,7 @@ impl Spine {
 }
 
 impl Before {
+    /// The spine with the argument.
     pub fn filled(self, alloc: Global, a: Part) -> Result<Spine, AllocError>
         ensures { IfOk result (λ s. spine s ≡ spec.filled (before self) (part a)) }
     {
@@ -75,12 +88,64 @@ impl Before {
         }
     }
 
+    /// What stands before the argument behind it.
     pub fn next(self, alloc: Global, a: Part) -> Result<Before, AllocError>
         ensures { IfOk result (λ b. before b ≡ spec.next (before self) (part a)) }
     {
         match self {
             Before::Making(s) => Ok(Before::Making(s.with_argument(a)?)),
             other => Ok(Before::Behind(other.filled(alloc, a)?)),
+        }
+    }
+
+    /// The builder with its arguments, where it stands before.
+    pub fn so_far(self, alloc: Global) -> Result<Part, AllocError>
+        requires { is_making (before self) ≡ true }
+        ensures { IfOk result (λ p. (s : grammar.Spine) → before self ≡ spec.making s → part p ≡ grammar.spine_part s) }
+    {
+        match self {
+            Before::Making(s) | Before::Behind(s) => s.into_part(alloc),
+            Before::First | Before::Alone => Err(AllocError),
+        }
+    }
+
+    /// Whether nothing stands before the argument.
+    pub fn is_first(&self) -> bool
+        ensures { result ≡ is_first (before self.now) }
+    {
+        match self {
+            Before::First => true,
+            Before::Behind(_) | Before::Alone | Before::Making(_) => false,
+        }
+    }
+
+    /// Whether an arrow may come behind the argument.
+    pub fn takes_arrow(&self) -> bool
+        ensures { result ≡ takes_arrow (before self.now) }
+    {
+        match self {
+            Before::First | Before::Behind(_) => true,
+            Before::Alone | Before::Making(_) => false,
+        }
+    }
+
+    /// Whether nothing takes arguments.
+    pub fn is_alone(&self) -> bool
+        ensures { result ≡ is_alone (before self.now) }
+    {
+        match self {
+            Before::Alone => true,
+            Before::First | Before::Behind(_) | Before::Making(_) => false,
+        }
+    }
+
+    /// Whether the builder of an instance stands before.
+    pub fn is_making(&self) -> bool
+        ensures { result ≡ is_making (before self.now) }
+    {
+        match self {
+            Before::Making(_) => true,
+            Before::First | Before::Behind(_) | Before::Alone => false,
         }
     }
 }

@@ -1,13 +1,13 @@
 //! Terms.
-ghost use Rattle.std.specs.Prelude.{◌≡◌, IfOk, option_map};
+ghost use Rattle.std.specs.Prelude.{◌≡◌, false, IfOk, option_map};
 ghost use Rattle.hb_grammar.specs.Machine as plain;
 ghost use Rattle.hb_reader.specs.declared.term.TermState.TheVariants as terms;
+ghost use Rattle.hb_reader.specs.Arguments.{bare_behind};
 ghost use Rattle.hb_reader.specs.Signs.{sign};
 ghost use Rattle.hb_reader.specs.States.{kind, term_state};
 ghost use Rattle.hb_reader.specs.Views.{part, before, stack};
 
 use super::argument::{argument, bare_named, wanted};
-use super::closing::closed;
 use super::following::after_argument;
 use super::kind::Kind;
 use super::marks::same;
@@ -64,16 +64,35 @@ fn after_carrier(
 ) -> Result<Option<Kind>, AllocError>
     ensures { IfOk result (λ o. option_map kind o ≡ plain.after_carrier (before b) (stack around) mark (sign token)) }
 {
-    match b {
-        Before::Making(s) => match mark {
-            Mark::End => {
-                let value = s.into_part(alloc)?;
-                closed(alloc, around, Mark::End, value, token)
-            }
-            _ => argument(alloc, Before::Making(s), around, mark, token),
-        },
-        _ => Ok(None),
+    if !b.is_making() {
+        return Ok(None);
     }
+    match mark {
+        Mark::End => {
+            let value = b.so_far(alloc)?;
+            around.closed(alloc, Mark::End, value, token)
+        }
+        _ => argument(alloc, b, around, mark, token),
+    }
+}
+
+/// A name behind `Type @`.
+fn bare_behind(
+    alloc: Global,
+    b: Before,
+    a: Part,
+    at: Span,
+    around: Stack,
+    mark: Mark,
+    token: Sign,
+) -> Result<Option<Kind>, AllocError>
+    ensures { IfOk result (λ o. option_map kind o ≡ bare_behind (before b) (part a) at (stack around) mark (sign token)) }
+{
+    if b.is_alone() {
+        return Ok(None);
+    }
+    let next = b.next(alloc, a)?;
+    Ok(bare_named(next, at, around, mark, token))
 }
 
 /// Behind `Type @`.
@@ -90,13 +109,7 @@ fn after_universe_at(
 {
     match mark {
         Mark::Brace => Ok(Some(Kind::Term(TermState::Level(b, a, around)))),
-        _ => match b {
-            Before::Alone => Ok(None),
-            other => {
-                let next = other.next(alloc, a)?;
-                Ok(bare_named(next, at, around, mark, token))
-            }
-        },
+        _ => bare_behind(alloc, b, a, at, around, mark, token),
     }
 }
 
