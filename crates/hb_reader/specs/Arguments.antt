@@ -43,9 +43,10 @@ abbrev pub is_alone : plain.Before → Bool
 is_alone plain.alone = true
 is_alone b = false
 
-abbrev pub is_making : plain.Before → Bool
-is_making (plain.making s) = true
-is_making b = false
+-- the builder of an instance with its arguments
+abbrev pub making_of : plain.Before → Option grammar.Spine
+making_of (plain.making s) = Some s
+making_of b = None
 
 -- the term before a token that ends it
 abbrev pub ending : plain.Before → Part → plain.Stack → Mark → Sign → Option plain.State

@@ -46,6 +46,14 @@ fn applied(
     argument(alloc, next, around, mark, token)
 }
 
+/// The term that ends with the argument.
+fn term_of(alloc: Global, b: Before, a: Part) -> Result<Part, AllocError>
+    ensures { IfOk result (λ p. part p ≡ grammar.spine_part (plain.filled (before b) (part a))) }
+{
+    let filled = b.filled(alloc, a)?;
+    filled.into_part(alloc)
+}
+
 /// The term ends before the token.
 fn ended(
     alloc: Global,
@@ -57,8 +65,7 @@ fn ended(
 ) -> Result<Option<Kind>, AllocError>
     ensures { IfOk result (λ o. option_map kind o ≡ ending (before b) (part a) (stack around) mark (sign token)) }
 {
-    let filled = b.filled(alloc, a)?;
-    let term = filled.into_part(alloc)?;
+    let term = term_of(alloc, b, a)?;
     around.closed(alloc, mark, term, token)
 }
 
@@ -87,8 +94,7 @@ fn arrow_behind(
 ) -> Result<Option<Kind>, AllocError>
     ensures { IfOk result (λ o. option_map kind o ≡ Some (plain.want plain.first (plain.right (grammar.spine_part (plain.filled (before b) (part a))) (stack around)))) }
 {
-    let filled = b.filled(alloc, a)?;
-    let left = filled.into_part(alloc)?;
+    let left = term_of(alloc, b, a)?;
     let around = Box::new(alloc, around)?;
     Ok(Some(want(Stack::Right(left, around))))
 }

@@ -10,17 +10,29 @@ use hb_base::{NameId, Span};
 use hb_raw::{Binder, Raw};
 use std::alloc::{AllocError, Global};
 
+/// Groups with one more at the end.
+fn pushed(
+    mut gs: Vec<Binder>,
+    names: Bounds,
+    ty: Option<Raw>,
+) -> Result<Vec<Binder>, AllocError>
+    ensures { IfOk result (λ r. groups r.items ≡ groups gs.items ++ (group_of names.items (option_map term ty) ∷ [])) }
+{
+    gs.push(Binder { names, ty })?;
+    Ok(gs)
+}
+
 /// Groups with one more.
 pub fn with_group(
-    mut gs: Vec<Binder>,
+    gs: Vec<Binder>,
     names: Bounds,
     ty: Option<Raw>,
 ) -> Result<Vec<Binder>, AllocError>
     ensures list { IfOk result (λ r. groups r.items ≡ groups gs.items ++ (group_of names.items (option_map term ty) ∷ [])) }
     ensures count { IfOk result (λ r. bound_in (groups r.items) ≡ bound_in (groups gs.items) + length names.items) }
 {
-    gs.push(Binder { names, ty })?;
-    Ok(gs)
+    let more = pushed(gs, names, ty)?;
+    Ok(more)
 }
 
 /// Groups with one more of a name alone.

@@ -16,6 +16,7 @@ mod listing;
 mod marks;
 mod need;
 mod part;
+mod places;
 mod queries;
 mod row;
 mod sign;

@@ -1,8 +1,8 @@
 //! Applications that are being read.
-ghost use Rattle.std.specs.Prelude.{◌≡◌, true, IfOk};
+ghost use Rattle.std.specs.Prelude.{◌≡◌, IfOk, option_map};
 ghost use Rattle.hb_grammar.specs.Grammar as grammar;
 ghost use Rattle.hb_grammar.specs.Machine as spec;
-ghost use Rattle.hb_reader.specs.Arguments.{is_first, takes_arrow, is_alone, is_making};
+ghost use Rattle.hb_reader.specs.Arguments.{is_first, takes_arrow, is_alone, making_of};
 ghost use Rattle.hb_reader.specs.Views.{part, spine, before};
 
 use super::part::{Part, joined};
@@ -99,13 +99,12 @@ impl Before {
     }
 
     /// The builder with its arguments, where it stands before.
-    pub fn so_far(self, alloc: Global) -> Result<Part, AllocError>
-        requires { is_making (before self) ≡ true }
-        ensures { IfOk result (λ p. (s : grammar.Spine) → before self ≡ spec.making s → part p ≡ grammar.spine_part s) }
+    pub fn into_making(self) -> Option<Spine>
+        ensures { option_map spine result ≡ making_of (before self) }
     {
         match self {
-            Before::Making(s) | Before::Behind(s) => s.into_part(alloc),
-            Before::First | Before::Alone => Err(AllocError),
+            Before::Making(s) => Some(s),
+            Before::First | Before::Behind(_) | Before::Alone => None,
         }
     }
 
@@ -136,16 +135,6 @@ impl Before {
         match self {
             Before::Alone => true,
             Before::First | Before::Behind(_) | Before::Making(_) => false,
-        }
-    }
-
-    /// Whether the builder of an instance stands before.
-    pub fn is_making(&self) -> bool
-        ensures { result ≡ is_making (before self.now) }
-    {
-        match self {
-            Before::Making(_) => true,
-            Before::First | Before::Behind(_) | Before::Alone => false,
         }
     }
 }

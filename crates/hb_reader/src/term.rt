@@ -5,7 +5,7 @@ ghost use Rattle.hb_reader.specs.declared.term.TermState.TheVariants as terms;
 ghost use Rattle.hb_reader.specs.Arguments.{bare_behind};
 ghost use Rattle.hb_reader.specs.Signs.{sign};
 ghost use Rattle.hb_reader.specs.States.{kind, term_state};
-ghost use Rattle.hb_reader.specs.Views.{part, before, stack};
+ghost use Rattle.hb_reader.specs.Views.{part, spine, before, stack};
 
 use super::argument::{argument, bare_named, wanted};
 use super::following::after_argument;
@@ -13,7 +13,7 @@ use super::kind::Kind;
 use super::marks::same;
 use super::part::{Part, level_part, projected_part};
 use super::sign::Sign;
-use super::spine::Before;
+use super::spine::{Before, Spine};
 use super::stack::Stack;
 use hb_base::{NameId, Span};
 use hb_grammar::Mark;
@@ -64,15 +64,28 @@ fn after_carrier(
 ) -> Result<Option<Kind>, AllocError>
     ensures { IfOk result (λ o. option_map kind o ≡ plain.after_carrier (before b) (stack around) mark (sign token)) }
 {
-    if !b.is_making() {
-        return Ok(None);
+    match b.into_making() {
+        Some(built) => making(alloc, built, around, mark, token),
+        None => Ok(None),
     }
+}
+
+/// Behind a builder with arguments.
+fn making(
+    alloc: Global,
+    built: Spine,
+    around: Stack,
+    mark: Mark,
+    token: Sign,
+) -> Result<Option<Kind>, AllocError>
+    ensures { IfOk result (λ o. option_map kind o ≡ plain.after_carrier (plain.making (spine built)) (stack around) mark (sign token)) }
+{
     match mark {
         Mark::End => {
-            let value = b.so_far(alloc)?;
+            let value = built.into_part(alloc)?;
             around.closed(alloc, Mark::End, value, token)
         }
-        _ => argument(alloc, b, around, mark, token),
+        _ => argument(alloc, Before::Making(built), around, mark, token),
     }
 }
 
