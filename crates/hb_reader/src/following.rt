@@ -85,6 +85,14 @@ fn arrowed(
     }
 }
 
+/// The right side of an arrow.
+fn right(alloc: Global, left: Part, around: Stack) -> Result<Option<Kind>, AllocError>
+    ensures { IfOk result (λ o. option_map kind o ≡ Some (plain.want plain.first (plain.right (part left) (stack around)))) }
+{
+    let around = Box::new(alloc, around)?;
+    Ok(Some(want(Stack::Right(left, around))))
+}
+
 /// Behind `a ->`.
 fn arrow_behind(
     alloc: Global,
@@ -95,8 +103,7 @@ fn arrow_behind(
     ensures { IfOk result (λ o. option_map kind o ≡ Some (plain.want plain.first (plain.right (grammar.spine_part (plain.filled (before b) (part a))) (stack around)))) }
 {
     let left = term_of(alloc, b, a)?;
-    let around = Box::new(alloc, around)?;
-    Ok(Some(want(Stack::Right(left, around))))
+    right(alloc, left, around)
 }
 
 /// The token behind an argument that isn't `.(`, `->` or an `@` behind `Type`.

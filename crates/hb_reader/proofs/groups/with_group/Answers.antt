@@ -8,5 +8,5 @@ pub returns-clause-count : goal.returns-clause-count
 returns-clause-count c =
     let gs = groups c.args.gs.items in
     let t = option_map term c.args.ty in
-    ap bound_in c.in_ok-pushed.ensures
+    ap bound_in c.in_ok-more.ensures
     ∙ (bound_in-more gs (group_of c.args.names.items t) ∙ ap (λ n. bound_in gs + n) (bound_by-of c.args.names.items t))
