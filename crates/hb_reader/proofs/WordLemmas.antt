@@ -5,11 +5,11 @@ use Rattle.hb_raw.specs.Preterm.{preterm, applied, preterms_of}
 use Rattle.hb_grammar.specs.Part.{joined}
 use Rattle.hb_grammar.specs.Grammar.{last_word, word_term, carrier_term}
 
-pub last_word-more : (k : Word) (ws : List Word) (w : Word) → last_word k (ws ++ (w ∷ [])) ≡ w
-last_word-more k [] w = refl
-last_word-more k (v ∷ ws) w = last_word-more v ws w
+pub last_word_more : (k : Word) (ws : List Word) (w : Word) → last_word k (ws ++ (w ∷ [])) ≡ w
+last_word_more k [] w = refl
+last_word_more k (v ∷ ws) w = last_word_more v ws w
 
-pub carrier_term-some : (k : Word) (ws : List Word) → (ws ≡ [] → ⊥)
+pub carrier_term_some : (k : Word) (ws : List Word) → (ws ≡ [] → ⊥)
     → carrier_term k ws ≡ preterm (joined k.span (last_word k ws).span) (applied (word_term k) (preterms_of (map word_term ws)))
-carrier_term-some k [] n = absurd (n refl)
-carrier_term-some k (w ∷ ws) n = refl
+carrier_term_some k [] n = absurd (n refl)
+carrier_term_some k (w ∷ ws) n = refl

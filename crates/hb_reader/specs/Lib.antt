@@ -6,5 +6,7 @@ pub mod Rows
 pub mod States
 -- Parts of the reader's steps at arguments.
 pub mod Arguments
+-- What the code counts.
+pub mod Measures
 -- Which numbers of a token's names a step reads.
 pub mod Needs

@@ -35,12 +35,7 @@ pub fn argument(
 }
 
 /// A term in parentheses begins.
-fn opened(
-    alloc: Global,
-    b: Before,
-    around: Stack,
-    place: Span,
-) -> Result<Option<Kind>, AllocError>
+fn opened(alloc: Global, b: Before, around: Stack, place: Span) -> Result<Option<Kind>, AllocError>
     ensures { IfOk result (λ o. option_map kind o ≡ Some (plain.want plain.first (plain.inside (before b) place (stack around)))) }
 {
     let around = Box::new(alloc, around)?;

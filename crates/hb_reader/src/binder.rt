@@ -3,13 +3,16 @@ ghost use Rattle.std.specs.Prelude.{◌≡◌, ◌+◌, ◌++◌, ◌∷◌, [],
 ghost use Rattle.hb_raw.specs.Preterm.{untyped};
 ghost use Rattle.hb_raw.specs.Views.{groups};
 ghost use Rattle.hb_grammar.specs.declared.mark.Mark.TheVariants.{Colon};
+ghost use Rattle.hb_grammar.specs.Leaf as leaf;
 ghost use Rattle.hb_grammar.specs.Machine as plain;
+ghost use Rattle.hb_reader.specs.Measures.{IsMeasure};
 ghost use Rattle.hb_reader.specs.Signs.{sign};
 ghost use Rattle.hb_reader.specs.States.{kind, binder_state};
 ghost use Rattle.hb_reader.specs.Views.{bound_in, binding};
 
 use super::groups::{bare_groups, with_name};
 use super::kind::Kind;
+use super::measure::{Measure, bound, bracketed};
 use super::sign::Sign;
 use super::stack::{Binding, Bounds, Stack};
 use super::term::want;
@@ -226,12 +229,7 @@ fn after_names(
 
 impl BinderState {
     /// What comes behind a token; `None` where there is no way on.
-    pub fn after(
-        self,
-        alloc: Global,
-        mark: Mark,
-        token: Sign,
-    ) -> Result<Option<Kind>, AllocError>
+    pub fn after(self, alloc: Global, mark: Mark, token: Sign) -> Result<Option<Kind>, AllocError>
         ensures { IfOk result (λ o. option_map kind o ≡ plain.step (binder_state self) mark (sign token)) }
     {
         match self {
@@ -240,6 +238,19 @@ impl BinderState {
             BinderState::Groups(b, gs) => after_groups(alloc, b, gs, mark, token),
             BinderState::Opened(b, gs) => after_open(alloc, b, gs, mark, token),
             BinderState::Names(b, gs, xs) => after_names(b, gs, xs, mark, token),
+        }
+    }
+
+    /// The nesting of a token, which begins no argument.
+    pub fn measure(&self, mark: Mark) -> Measure
+        ensures { (w : leaf.Sign) → IsMeasure result (plain.read (binder_state self.now) mark w) }
+    {
+        match self {
+            BinderState::First(b) => bound(b, mark),
+            BinderState::Bares(b, _) => bound(b, mark),
+            BinderState::Groups(b, _) => bound(b, mark),
+            BinderState::Opened(b, _) => bracketed(b),
+            BinderState::Names(b, _, _) => bracketed(b),
         }
     }
 }

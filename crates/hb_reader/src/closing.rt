@@ -127,13 +127,7 @@ pub fn closed_axiom(start: Span, name: Word, mark: Mark, p: Part) -> Option<Kind
 }
 
 /// Behind the type of a definition.
-pub fn closed_type(
-    start: Span,
-    name: Word,
-    gs: Vec<Binder>,
-    mark: Mark,
-    p: Part,
-) -> Option<Kind>
+pub fn closed_type(start: Span, name: Word, gs: Vec<Binder>, mark: Mark, p: Part) -> Option<Kind>
     ensures { (w : leaf.Sign) → option_map kind result ≡ plain.closed (plain.definition_type start name (groups gs.items) (bound_in (groups gs.items))) mark (part p) w }
 {
     match mark {

@@ -70,12 +70,7 @@ fn ended(
 }
 
 /// An arrow behind a term without one.
-fn arrowed(
-    alloc: Global,
-    b: Before,
-    a: Part,
-    around: Stack,
-) -> Result<Option<Kind>, AllocError>
+fn arrowed(alloc: Global, b: Before, a: Part, around: Stack) -> Result<Option<Kind>, AllocError>
     ensures { IfOk result (λ o. option_map kind o ≡ plain.arrowed (before b) (part a) (stack around)) }
 {
     if b.takes_arrow() {

@@ -49,13 +49,7 @@ fn instance_named(alloc: Global, start: Span, name: Option<Word>) -> Kind
 }
 
 /// A mixin or factory without items, before its fields.
-fn fields_begin(
-    alloc: Global,
-    is_factory: bool,
-    start: Span,
-    name: Word,
-    carrier: Word,
-) -> Kind
+fn fields_begin(alloc: Global, is_factory: bool, start: Span, name: Word, carrier: Word) -> Kind
     ensures { kind result ≡ plain.fields_begin (record { kind = is_factory; start = start; name = name; carrier = carrier; items = [] }) }
 {
     let of = RecordOf {

@@ -11,11 +11,7 @@ use hb_raw::{Binder, Raw};
 use std::alloc::{AllocError, Global};
 
 /// Groups with one more at the end.
-fn pushed(
-    mut gs: Vec<Binder>,
-    names: Bounds,
-    ty: Option<Raw>,
-) -> Result<Vec<Binder>, AllocError>
+fn pushed(mut gs: Vec<Binder>, names: Bounds, ty: Option<Raw>) -> Result<Vec<Binder>, AllocError>
     ensures { IfOk result (λ r. groups r.items ≡ groups gs.items ++ (group_of names.items (option_map term ty) ∷ [])) }
 {
     gs.push(Binder { names, ty })?;

@@ -1,15 +1,20 @@
 //! Instances.
 ghost use Rattle.std.specs.Prelude.{◌≡◌, ◌++◌, ◌∷◌, [], Some, IfOk, option_map};
 ghost use Rattle.hb_grammar.specs.Grammar as grammar;
+ghost use Rattle.hb_grammar.specs.declared.mark.Mark as marks;
 ghost use Rattle.hb_grammar.specs.Leaf as leaf;
 ghost use Rattle.hb_grammar.specs.Machine as plain;
 ghost use Rattle.hb_reader.specs.declared.instance.InstanceState.TheVariants as instances;
+ghost use Rattle.hb_reader.specs.Measures.{IsMeasure, bracketed_leaf};
+ghost use Rattle.hb_reader.specs.Needs.{instance_needs};
 ghost use Rattle.hb_reader.specs.Signs.{sign};
 ghost use Rattle.hb_reader.specs.States.{kind, placing, instance_state};
 ghost use Rattle.hb_reader.specs.Views.{instance_of};
 
 use super::kind::Kind;
 use super::marks::same;
+use super::measure::Measure;
+use super::need::Need;
 use super::part::{joined, name_part};
 use super::places::carrier_part;
 use super::sign::Sign;
@@ -121,12 +126,7 @@ fn after_condition_names(
 }
 
 /// The type of a condition.
-fn after_condition_type(
-    of: InstanceOf,
-    words: Vec<Word>,
-    mark: Mark,
-    token: Sign,
-) -> Option<Kind>
+fn after_condition_type(of: InstanceOf, words: Vec<Word>, mark: Mark, token: Sign) -> Option<Kind>
     ensures { option_map kind result ≡ plain.step (plain.condition_typed (instance_of of) words.items) mark (sign token) }
 {
     if same(Mark::Universe, mark) {
@@ -230,13 +230,7 @@ fn after_placing(
 }
 
 /// Behind the `(` of a carrier.
-fn after_place_open(
-    alloc: Global,
-    p: Placing,
-    start: Span,
-    mark: Mark,
-    token: Sign,
-) -> Option<Kind>
+fn after_place_open(alloc: Global, p: Placing, start: Span, mark: Mark, token: Sign) -> Option<Kind>
     ensures { option_map kind result ≡ plain.step (instance_state (instances.PlaceName p start)) mark (sign token) }
 {
     if same(Mark::Ident, mark) {
@@ -288,12 +282,7 @@ fn after_carrier(
 
 impl InstanceState {
     /// What comes behind a token; `None` where there is no way on.
-    pub fn after(
-        self,
-        alloc: Global,
-        mark: Mark,
-        token: Sign,
-    ) -> Result<Option<Kind>, AllocError>
+    pub fn after(self, alloc: Global, mark: Mark, token: Sign) -> Result<Option<Kind>, AllocError>
         ensures { IfOk result (λ o. option_map kind o ≡ plain.step (instance_state self) mark (sign token)) }
     {
         match self {
@@ -311,5 +300,76 @@ impl InstanceState {
             }
             InstanceState::Becomes(i, f, k, ws) => Ok(after_carrier(i, f, k, ws, mark)),
         }
+    }
+
+    /// The nesting of a token, and the number of the argument that it begins.
+    pub fn measure(&self, mark: Mark) -> Measure
+        ensures { (w : leaf.Sign) → IsMeasure result (plain.read (instance_state self.now) mark w) }
+    {
+        match self {
+            InstanceState::Conditioned(_) => bracket(mark, 0),
+            InstanceState::Name(_) | InstanceState::Names(_, _) => flat(1, 0),
+            InstanceState::Type(_, _) | InstanceState::Close(_, _, _) => flat(1, 0),
+            InstanceState::Factory(_) | InstanceState::Build(_) => flat(0, 0),
+            InstanceState::Placing(p) => bracket(mark, p.argument()),
+            InstanceState::PlaceName(_, _) => flat(1, 0),
+            InstanceState::PlaceNames(_, _, _, ws) => place(mark, ws),
+            InstanceState::Becomes(_, _, _, _) => flat(0, 0),
+        }
+    }
+
+    /// Which numbers a name of two parts needs.
+    pub fn pair_needs(&self) -> Need
+        ensures { result ≡ instance_needs self.now }
+    {
+        match self {
+            InstanceState::Build(_) => Need::Both,
+            InstanceState::Type(_, _) => Need::First,
+            InstanceState::Conditioned(_) | InstanceState::Name(_) => Need::Nothing,
+            InstanceState::Names(_, _) | InstanceState::Close(_, _, _) => Need::Nothing,
+            InstanceState::Factory(_) | InstanceState::Placing(_) => Need::Nothing,
+            InstanceState::PlaceName(_, _) => Need::Nothing,
+            InstanceState::PlaceNames(_, _, _, _) => Need::Nothing,
+            InstanceState::Becomes(_, _, _, _) => Need::Nothing,
+        }
+    }
+}
+
+impl Placing {
+    /// The number of the argument that the carrier is.
+    fn argument(&self) -> u64
+        ensures { result ≡ plain.placing_argument (placing self.now) }
+    {
+        match self {
+            Placing::Factory(_, _) => 0,
+            Placing::Builder(_, _, _) => 1,
+        }
+    }
+}
+
+/// A token that is no bracket, at a nesting.
+pub fn flat(nested: u64, applied: u64) -> Measure
+    ensures { (m : marks.Mark) (w : leaf.Sign) → IsMeasure result (leaf.leaf m w nested applied) }
+{
+    Measure { nested, applied }
+}
+
+/// A token that may be `(`.
+fn bracket(mark: Mark, applied: u64) -> Measure
+    ensures { (w : leaf.Sign) → IsMeasure result (bracketed_leaf mark w applied) }
+{
+    match mark {
+        Mark::Open => flat(1, applied),
+        _ => flat(0, applied),
+    }
+}
+
+/// A token behind the names of a carrier.
+fn place(mark: Mark, args: &Vec<Word>) -> Measure
+    ensures { (w : leaf.Sign) → IsMeasure result (plain.place_leaf args.now.items mark w) }
+{
+    match mark {
+        Mark::Ident => flat(1, args.len() as u64 + 1),
+        _ => flat(1, 0),
     }
 }

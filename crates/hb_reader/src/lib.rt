@@ -2,6 +2,7 @@
 #![tactic(auto)]
 
 mod argument;
+mod begin;
 mod binder;
 mod builders;
 mod carrier;
@@ -14,6 +15,7 @@ mod instance;
 mod kind;
 mod listing;
 mod marks;
+mod measure;
 mod need;
 mod part;
 mod places;

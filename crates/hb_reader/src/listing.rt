@@ -227,12 +227,7 @@ fn after_field_name(r: RecordOf, fields: Vec<Field>, name: Word, mark: Mark) -> 
 
 impl ListState {
     /// What comes behind a token; `None` where there is no way on.
-    pub fn after(
-        self,
-        alloc: Global,
-        mark: Mark,
-        token: Sign,
-    ) -> Result<Option<Kind>, AllocError>
+    pub fn after(self, alloc: Global, mark: Mark, token: Sign) -> Result<Option<Kind>, AllocError>
         ensures { IfOk result (λ o. option_map kind o ≡ plain.step (list_state self) mark (sign token)) }
     {
         match self {

@@ -31,6 +31,7 @@ fn word_raws(alloc: Global, words: &Vec<Word>) -> Result<Vec<Raw>, AllocError>
 }
 
 /// The last of a word and words.
+#[tactic(auto, using(crate::proofs::WordLemmas::last_word_more))]
 fn last_word(first: Word, words: &Vec<Word>) -> Word
     ensures { result ≡ grammar.last_word first words.now.items }
 {
@@ -55,6 +56,7 @@ pub fn carrier_part(
 }
 
 /// The term of a carrier with its arguments.
+#[tactic(auto, using(crate::proofs::WordLemmas::carrier_term_some))]
 fn carrier_raw(alloc: Global, carrier: Word, args: &Vec<Word>) -> Result<Raw, AllocError>
     ensures { IfOk result (λ r. term r ≡ grammar.carrier_term carrier args.now.items) }
 {

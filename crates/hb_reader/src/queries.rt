@@ -55,7 +55,13 @@ impl QueryRow {
             QueryRow::RequireImported(x) => finish(x, CommandKind::Require { name: word }),
             QueryRow::HowtoFirst(x) => Kind::Row(Row::Query(QueryRow::HowtoSecond(x, word))),
             QueryRow::HowtoSecond(x, structure) => {
-                finish(x, CommandKind::Howto { structure, carrier: word })
+                finish(
+                    x,
+                    CommandKind::Howto {
+                        structure,
+                        carrier: word,
+                    },
+                )
             }
             QueryRow::AboutName(x) => finish(x, CommandKind::About { name: word }),
         }

@@ -7,8 +7,8 @@ ghost use Rattle.hb_reader.specs.States.{kind};
 
 use super::fork::Fork;
 use super::kind::Kind;
-use super::marks::same;
 use super::listing::{ListState, Listing};
+use super::marks::same;
 use super::row::Row;
 use super::sign::Sign;
 use hb_base::Span;

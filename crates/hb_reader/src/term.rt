@@ -1,8 +1,11 @@
 //! Terms.
-ghost use Rattle.std.specs.Prelude.{◌≡◌, false, IfOk, option_map};
+ghost use Rattle.std.specs.Prelude.{◌≡◌, ◌-◌, ℕ, false, cond, IfOk, option_map};
+ghost use Rattle.hb_grammar.specs.Leaf as leaf;
+ghost use Rattle.hb_grammar.specs.Places.{place_of};
 ghost use Rattle.hb_grammar.specs.Machine as plain;
 ghost use Rattle.hb_reader.specs.declared.term.TermState.TheVariants as terms;
 ghost use Rattle.hb_reader.specs.Arguments.{bare_behind};
+ghost use Rattle.hb_reader.specs.Measures.{IsMeasure};
 ghost use Rattle.hb_reader.specs.Signs.{sign};
 ghost use Rattle.hb_reader.specs.States.{kind, term_state};
 ghost use Rattle.hb_reader.specs.Views.{part, spine, before, stack};
@@ -11,6 +14,9 @@ use super::argument::{argument, bare_named, wanted};
 use super::following::after_argument;
 use super::kind::Kind;
 use super::marks::same;
+use super::measure::{
+    Measure, behind, making as making_measure, universe_at, wanted as wanted_measure, within,
+};
 use super::part::{Part, level_part, projected_part};
 use super::sign::Sign;
 use super::spine::{Before, Spine};
@@ -189,12 +195,7 @@ fn after_projection(
 
 impl TermState {
     /// What comes behind a token; `None` where there is no way on.
-    pub fn after(
-        self,
-        alloc: Global,
-        mark: Mark,
-        token: Sign,
-    ) -> Result<Option<Kind>, AllocError>
+    pub fn after(self, alloc: Global, mark: Mark, token: Sign) -> Result<Option<Kind>, AllocError>
         ensures { IfOk result (λ o. option_map kind o ≡ plain.step (term_state self) mark (sign token)) }
     {
         match self {
@@ -211,6 +212,36 @@ impl TermState {
             TermState::ProjectClose(b, a, n, k) => {
                 after_projection(alloc, b, a, n, k, mark, token)
             }
+        }
+    }
+
+    /// The nesting of a token, and the number of the argument that it begins.
+    pub fn measure(&self, mark: Mark) -> Measure
+        ensures { (w : leaf.Sign) → IsMeasure result (plain.read (term_state self.now) mark w) }
+    {
+        match self {
+            TermState::Want(b, k) => wanted_measure(b, k, mark),
+            TermState::Have(b, _, e, k) => behind(b, *e, k, mark),
+            TermState::More(b, k) => making_measure(b, k, mark),
+            TermState::Bare(_, _, k) => within(k),
+            TermState::UniverseAt(b, _, _, k) => universe_at(b, k, mark),
+            TermState::Level(_, _, k) => within(k),
+            TermState::LevelClose(_, _, _, k) => within(k),
+            TermState::Projecting(_, _, k) => within(k),
+            TermState::ProjectClose(_, _, _, k) => within(k),
+        }
+    }
+
+    /// Whether an argument that the token begins has begun a token before.
+    pub fn is_late(&self, mark: Mark) -> bool
+        ensures { (w : leaf.Sign) (n : ℕ) → place_of (plain.read (term_state self.now) mark w) n ≡ cond result (n - 1) n }
+    {
+        match self {
+            TermState::UniverseAt(_, _, _, _) => !same(Mark::Brace, mark),
+            TermState::Want(_, _) | TermState::Have(_, _, _, _) => false,
+            TermState::More(_, _) | TermState::Bare(_, _, _) => false,
+            TermState::Level(_, _, _) | TermState::LevelClose(_, _, _, _) => false,
+            TermState::Projecting(_, _, _) | TermState::ProjectClose(_, _, _, _) => false,
         }
     }
 }
