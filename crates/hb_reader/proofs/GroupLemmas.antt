@@ -12,9 +12,9 @@ pub bound_in-more : (gs : List Group) (g : Group) → bound_in (gs ++ (g ∷ [])
 bound_in-more [] g = omega arith
 bound_in-more (h ∷ gs) g = let e = bound_in-more gs g in omega (arith, e)
 
-pub bound_by-of : (xs : List (Option NameId × Span)) (t : Option Preterm) → bound_by (group_of xs t) ≡ length xs
-bound_by-of xs None = refl
-bound_by-of xs (Some t) = refl
+pub bound_by_of : (xs : List (Option NameId × Span)) (t : Option Preterm) → bound_by (group_of xs t) ≡ length xs
+bound_by_of xs None = refl
+bound_by_of xs (Some t) = refl
 
 pub bare_groups-more : (xs : List (Option NameId × Span)) (x : Option NameId × Span)
     → plain.bare_groups (xs ++ (x ∷ [])) ≡ plain.bare_groups xs ++ (untyped (x ∷ []) ∷ [])

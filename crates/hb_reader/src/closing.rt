@@ -104,8 +104,9 @@ pub fn closed_group(
     xs: Bounds,
     mark: Mark,
     p: Part,
+    token: Sign,
 ) -> Result<Option<Kind>, AllocError>
-    ensures { (w : leaf.Sign) → IfOk result (λ o. option_map kind o ≡ plain.closed (plain.group_type (binding b) (groups gs.items) (bound_in (groups gs.items)) xs.items) mark (part p) w) }
+    ensures { IfOk result (λ o. option_map kind o ≡ plain.closed (plain.group_type (binding b) (groups gs.items) (bound_in (groups gs.items)) xs.items) mark (part p) (sign token)) }
 {
     match mark {
         Mark::Close => {
@@ -169,8 +170,9 @@ pub fn closed_field(
     name: Word,
     mark: Mark,
     p: Part,
+    token: Sign,
 ) -> Result<Option<Kind>, AllocError>
-    ensures { (w : leaf.Sign) → IfOk result (λ o. option_map kind o ≡ plain.closed (plain.field_type (record_of r) (map field fs.items) name) mark (part p) w) }
+    ensures { IfOk result (λ o. option_map kind o ≡ plain.closed (plain.field_type (record_of r) (map field fs.items) name) mark (part p) (sign token)) }
 {
     match mark {
         Mark::Semicolon => {

@@ -6,7 +6,7 @@ ghost use Rattle.hb_grammar.specs.Leaf as leaf;
 ghost use Rattle.hb_grammar.specs.Machine as plain;
 ghost use Rattle.hb_reader.specs.declared.instance.InstanceState.TheVariants as instances;
 ghost use Rattle.hb_reader.specs.Measures.{IsMeasure, bracketed_leaf};
-ghost use Rattle.hb_reader.specs.Needs.{instance_needs};
+ghost use Rattle.hb_reader.specs.Needs.{is_row};
 ghost use Rattle.hb_reader.specs.Signs.{sign};
 ghost use Rattle.hb_reader.specs.States.{kind, placing, instance_state};
 ghost use Rattle.hb_reader.specs.Views.{instance_of};
@@ -14,7 +14,6 @@ ghost use Rattle.hb_reader.specs.Views.{instance_of};
 use super::kind::Kind;
 use super::marks::same;
 use super::measure::Measure;
-use super::need::Need;
 use super::part::{joined, name_part};
 use super::places::carrier_part;
 use super::sign::Sign;
@@ -308,9 +307,12 @@ impl InstanceState {
     {
         match self {
             InstanceState::Conditioned(_) => bracket(mark, 0),
-            InstanceState::Name(_) | InstanceState::Names(_, _) => flat(1, 0),
-            InstanceState::Type(_, _) | InstanceState::Close(_, _, _) => flat(1, 0),
-            InstanceState::Factory(_) | InstanceState::Build(_) => flat(0, 0),
+            InstanceState::Name(_) => flat(1, 0),
+            InstanceState::Names(_, _) => flat(1, 0),
+            InstanceState::Type(_, _) => flat(1, 0),
+            InstanceState::Close(_, _, _) => flat(1, 0),
+            InstanceState::Factory(_) => flat(0, 0),
+            InstanceState::Build(_) => flat(0, 0),
             InstanceState::Placing(p) => bracket(mark, p.argument()),
             InstanceState::PlaceName(_, _) => flat(1, 0),
             InstanceState::PlaceNames(_, _, _, ws) => place(mark, ws),
@@ -318,19 +320,17 @@ impl InstanceState {
         }
     }
 
-    /// Which numbers a name of two parts needs.
-    pub fn pair_needs(&self) -> Need
-        ensures { result ≡ instance_needs self.now }
+    /// Whether a known token has to come.
+    pub fn is_row(&self) -> bool
+        ensures { result ≡ is_row (instance_state self.now) }
     {
         match self {
-            InstanceState::Build(_) => Need::Both,
-            InstanceState::Type(_, _) => Need::First,
-            InstanceState::Conditioned(_) | InstanceState::Name(_) => Need::Nothing,
-            InstanceState::Names(_, _) | InstanceState::Close(_, _, _) => Need::Nothing,
-            InstanceState::Factory(_) | InstanceState::Placing(_) => Need::Nothing,
-            InstanceState::PlaceName(_, _) => Need::Nothing,
-            InstanceState::PlaceNames(_, _, _, _) => Need::Nothing,
-            InstanceState::Becomes(_, _, _, _) => Need::Nothing,
+            InstanceState::Name(_) | InstanceState::Type(_, _) => true,
+            InstanceState::Close(_, _, _) | InstanceState::PlaceName(_, _) => true,
+            InstanceState::Factory(_) | InstanceState::Build(_) => true,
+            InstanceState::Becomes(_, _, _, _) => true,
+            InstanceState::Conditioned(_) | InstanceState::Names(_, _) => false,
+            InstanceState::Placing(_) | InstanceState::PlaceNames(_, _, _, _) => false,
         }
     }
 }
@@ -347,9 +347,9 @@ impl Placing {
     }
 }
 
-/// A token that is no bracket, at a nesting.
+/// The counts of a token.
 pub fn flat(nested: u64, applied: u64) -> Measure
-    ensures { (m : marks.Mark) (w : leaf.Sign) → IsMeasure result (leaf.leaf m w nested applied) }
+    ensures { result ≡ record { nested = nested; applied = applied } }
 {
     Measure { nested, applied }
 }

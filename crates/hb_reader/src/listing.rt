@@ -4,6 +4,7 @@ ghost use Rattle.hb_raw.specs.Views.{field};
 ghost use Rattle.hb_grammar.specs.Leaf as leaf;
 ghost use Rattle.hb_grammar.specs.Machine as plain;
 ghost use Rattle.hb_reader.specs.declared.listing.ListState.TheVariants as lists;
+ghost use Rattle.hb_reader.specs.Needs.{is_row};
 ghost use Rattle.hb_reader.specs.Signs.{sign};
 ghost use Rattle.hb_reader.specs.States.{kind, listing, list_state};
 ghost use Rattle.hb_reader.specs.Views.{record_of};
@@ -238,6 +239,18 @@ impl ListState {
             ListState::Brace(r) => Ok(after_brace(alloc, r, mark)),
             ListState::Fields(r, fs) => Ok(after_fields(r, fs, mark, token)),
             ListState::Colon(r, fs, f) => Ok(after_field_name(r, fs, f, mark)),
+        }
+    }
+
+    /// Whether a known token has to come.
+    pub fn is_row(&self) -> bool
+        ensures { result ≡ is_row (list_state self.now) }
+    {
+        match self {
+            ListState::Factory(_, _) | ListState::Carrier(_, _, _) => true,
+            ListState::ItemOrEnd(_, _, _, _) | ListState::Brace(_) => true,
+            ListState::Colon(_, _, _) => true,
+            ListState::Items(_, _) | ListState::Fields(_, _) => false,
         }
     }
 }

@@ -1,13 +1,13 @@
 //! The nesting of tokens, and which arguments they begin.
 ghost use Rattle.std.specs.Prelude.{◌≡◌, ◌+◌};
-ghost use Rattle.hb_raw.specs.Views.{groups};
+ghost use Rattle.hb_raw.specs.Views.{group, groups};
 ghost use Rattle.hb_grammar.specs.declared.mark.Mark as marks;
 ghost use Rattle.hb_grammar.specs.declared.mark.Mark.TheVariants.{At};
 ghost use Rattle.hb_grammar.specs.Leaf as leaf;
 ghost use Rattle.hb_grammar.specs.Part as shape;
 ghost use Rattle.hb_grammar.specs.Machine as plain;
 ghost use Rattle.hb_reader.specs.Measures.{counted, IsMeasure};
-ghost use Rattle.hb_reader.specs.Views.{before, stack, binding, bound_in};
+ghost use Rattle.hb_reader.specs.Views.{before, stack, binding, bound_by, bound_in};
 
 use super::following::begins_argument;
 use super::spine::Before;
@@ -23,13 +23,23 @@ pub struct Measure {
     pub applied: u64,
 }
 
+/// How many names a group binds.
+#[tactic(auto, using(crate::proofs::GroupLemmas::bound_by_of))]
+fn name_count(g: &Binder) -> u64
+    ensures { result ≡ bound_by (group g.now) }
+{
+    match g {
+        Binder { names, ty: _ } => names.len() as u64,
+    }
+}
+
 /// How many names groups bind.
 fn bound_count(gs: &Vec<Binder>) -> u64
     ensures { result ≡ counted (bound_in (groups gs.now.items)) }
 {
     let mut sum: u64 = 0;
     for g in gs.iter() {
-        sum = sum.saturating_add(g.names.len() as u64);
+        sum = sum.saturating_add(name_count(g));
     }
     sum
 }

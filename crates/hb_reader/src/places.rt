@@ -31,7 +31,6 @@ fn word_raws(alloc: Global, words: &Vec<Word>) -> Result<Vec<Raw>, AllocError>
 }
 
 /// The last of a word and words.
-#[tactic(auto, using(crate::proofs::WordLemmas::last_word_more))]
 fn last_word(first: Word, words: &Vec<Word>) -> Word
     ensures { result ≡ grammar.last_word first words.now.items }
 {

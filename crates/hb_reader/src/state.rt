@@ -6,7 +6,7 @@ ghost use Rattle.hb_grammar.specs.Places.{IsWithin, place_of};
 ghost use Rattle.hb_grammar.specs.Machine as plain;
 ghost use Rattle.hb_reader.specs.declared.kind.Kind.TheVariants as kinds;
 ghost use Rattle.hb_reader.specs.Measures.{IsMeasure};
-ghost use Rattle.hb_reader.specs.Needs.{Agree, needs, pair_needs};
+ghost use Rattle.hb_reader.specs.Needs.{Agree, need, is_row};
 ghost use Rattle.hb_reader.specs.Signs.{sign};
 ghost use Rattle.hb_reader.specs.States.{kind, state, finished_in, is_between};
 
@@ -15,7 +15,7 @@ use super::instance::flat;
 use super::kind::Kind;
 use super::marks::same;
 use super::measure::Measure;
-use super::need::Need;
+use super::need::{Need, name_need, row_need};
 use super::sign::Sign;
 use hb_grammar::Mark;
 use hb_raw::Command;
@@ -72,26 +72,46 @@ impl Kind {
         }
     }
 
-    /// Which of the token's numbers the step reads.
-    fn needs(&self, mark: Mark) -> Need
-        ensures { result ≡ needs self.now mark }
+    /// Whether the reader is between two sentences.
+    fn is_begin(&self) -> bool
+        ensures { result ≡ is_between (kind self.now) }
     {
-        match mark {
-            Mark::Ident => Need::Whole,
-            Mark::Pair(_) => self.pair_needs(),
-            _ => Need::Nothing,
+        match self {
+            Kind::Begin => true,
+            Kind::Done(_) | Kind::Finish(_) => false,
+            Kind::Row(_) => false,
+            Kind::Term(_) => false,
+            Kind::Binder(_) => false,
+            Kind::List(_) => false,
+            Kind::Instance(_) => false,
         }
     }
 
-    /// The same of a name of two parts.
-    fn pair_needs(&self) -> Need
-        ensures { result ≡ pair_needs self.now }
+    /// Whether a known token has to come.
+    fn is_row(&self) -> bool
+        ensures { result ≡ is_row (kind self.now) }
     {
         match self {
-            Kind::Term(_) => Need::Whole,
-            Kind::Instance(i) => i.pair_needs(),
-            Kind::Begin | Kind::Done(_) | Kind::Finish(_) => Need::Nothing,
-            Kind::Row(_) | Kind::Binder(_) | Kind::List(_) => Need::Nothing,
+            Kind::Begin | Kind::Done(_) => false,
+            Kind::Finish(_) => true,
+            Kind::Row(_) => true,
+            Kind::Term(t) => t.is_row(),
+            Kind::Binder(_) => false,
+            Kind::List(l) => l.is_row(),
+            Kind::Instance(i) => i.is_row(),
+        }
+    }
+
+    /// Which of the token's numbers the step reads.
+    fn needs(&self, mark: Mark) -> Need
+        ensures { result ≡ need (kind self.now) mark }
+    {
+        if self.is_begin() {
+            Need::Nothing
+        } else if self.is_row() {
+            row_need(mark)
+        } else {
+            name_need(mark)
         }
     }
 }
@@ -119,15 +139,7 @@ impl State {
     pub fn is_begin(&self) -> bool
         ensures { result ≡ is_between (state self.now) }
     {
-        match &self.kind {
-            Kind::Begin => true,
-            Kind::Done(_) | Kind::Finish(_) => false,
-            Kind::Row(_) => false,
-            Kind::Term(_) => false,
-            Kind::Binder(_) => false,
-            Kind::List(_) => false,
-            Kind::Instance(_) => false,
-        }
+        self.kind.is_begin()
     }
 
     /// The state behind one more token; `None` where there is no way on.
@@ -143,6 +155,7 @@ impl State {
     /// Which of the token's numbers the step reads: with others in the place of those that it
     /// doesn't, it leads to the same state.
     pub fn needs(&self, mark: Mark) -> Need
+        ensures exactly { result ≡ need (state self.now) mark }
         ensures suffices { (w v : leaf.Sign) → Agree result w v → plain.step (state self.now) mark w ≡ plain.step (state self.now) mark v }
     {
         self.kind.needs(mark)

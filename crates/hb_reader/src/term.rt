@@ -6,6 +6,7 @@ ghost use Rattle.hb_grammar.specs.Machine as plain;
 ghost use Rattle.hb_reader.specs.declared.term.TermState.TheVariants as terms;
 ghost use Rattle.hb_reader.specs.Arguments.{bare_behind};
 ghost use Rattle.hb_reader.specs.Measures.{IsMeasure};
+ghost use Rattle.hb_reader.specs.Needs.{is_row};
 ghost use Rattle.hb_reader.specs.Signs.{sign};
 ghost use Rattle.hb_reader.specs.States.{kind, term_state};
 ghost use Rattle.hb_reader.specs.Views.{part, spine, before, stack};
@@ -242,6 +243,19 @@ impl TermState {
             TermState::More(_, _) | TermState::Bare(_, _, _) => false,
             TermState::Level(_, _, _) | TermState::LevelClose(_, _, _, _) => false,
             TermState::Projecting(_, _, _) | TermState::ProjectClose(_, _, _, _) => false,
+        }
+    }
+
+    /// Whether a known token has to come.
+    pub fn is_row(&self) -> bool
+        ensures { result ≡ is_row (term_state self.now) }
+    {
+        match self {
+            TermState::Level(_, _, _) | TermState::LevelClose(_, _, _, _) => true,
+            TermState::ProjectClose(_, _, _, _) => true,
+            TermState::Want(_, _) | TermState::Have(_, _, _, _) => false,
+            TermState::More(_, _) | TermState::Bare(_, _, _) => false,
+            TermState::UniverseAt(_, _, _, _) | TermState::Projecting(_, _, _) => false,
         }
     }
 }

@@ -1,0 +1,8 @@
+use Rattle.std.proofs.Common.{◌≡◌, ◌+◌}
+use Rattle.hb_grammar.specs.Machine as plain
+use Rattle.hb_reader.specs.Views.{stack}
+use Rattle.hb_reader.specs.Measures.{counted}
+use Rattle.hb_reader.proofs.measure.depth.Given as goal
+
+abbrev pub invariant-loop-k : goal.invariant-loop-k
+invariant-loop-k l = counted (l.sum + plain.depth (stack l.now)) ≡ counted (plain.depth (stack l.fn.around))
