@@ -86,13 +86,13 @@ fields_blind r fs Unbrace e a b f g n p = refl
 fields_blind r fs _ e a b f g n p = refl
 
 list_blind : (s : ListState) (m : Mark) → (m ≡ Ident → ⊥) → Blind (list_state s) m
-list_blind (lists.Factory l is) m e a b f g n p = rw (not_ident m e) refl
-list_blind (lists.Carrier l is w) m e a b f g n p = rw (not_ident m e) refl
-list_blind (lists.Items l is) m e a b f g n p = refl
-list_blind (lists.ItemOrEnd x k c is) m e a b f g n p = rw (not_ident m e) refl
-list_blind (lists.Brace r) m e a b f g n p = refl
+list_blind (lists.Factory l is) m e = λ a b f g n p. rw (not_ident m e) refl
+list_blind (lists.Carrier l is w) m e = λ a b f g n p. rw (not_ident m e) refl
+list_blind (lists.Items l is) m e = λ a b f g n p. refl
+list_blind (lists.ItemOrEnd x k c is) m e = λ a b f g n p. rw (not_ident m e) refl
+list_blind (lists.Brace r) m e = λ a b f g n p. refl
 list_blind (lists.Fields r fs) m e = fields_blind _ _ m e
-list_blind (lists.Colon r fs w) m e a b f g n p = refl
+list_blind (lists.Colon r fs w) m e = λ a b f g n p. refl
 
 list_whole : (s : ListState) → ByWhole (list_state s) Ident
 list_whole (lists.Factory l is) a f g n p = refl
@@ -131,17 +131,17 @@ not_build (Pair s) n = absurd (n s refl)
 not_build _ n = refl
 
 instance_blind : (s : InstanceState) (m : Mark) → NoName m → Blind (instance_state s) m
-instance_blind (instances.Conditioned i) m e a b f g n p = refl
-instance_blind (instances.Name i) m e a b f g n p = rw (not_ident m e.0) refl
+instance_blind (instances.Conditioned i) m e = λ a b f g n p. refl
+instance_blind (instances.Name i) m e = λ a b f g n p. rw (not_ident m e.0) refl
 instance_blind (instances.Names i ws) m e = names_of_blind _ _ m e.0
-instance_blind (instances.Type i ws) m e a b f g n p = rw (not_carried m e.1) refl
-instance_blind (instances.Close i ws s) m e a b f g n p = refl
-instance_blind (instances.Factory i) m e a b f g n p = rw (not_ident m e.0) refl
-instance_blind (instances.Build i) m e a b f g n p = rw (not_build m e.1) refl
+instance_blind (instances.Type i ws) m e = λ a b f g n p. rw (not_carried m e.1) refl
+instance_blind (instances.Close i ws s) m e = λ a b f g n p. refl
+instance_blind (instances.Factory i) m e = λ a b f g n p. rw (not_ident m e.0) refl
+instance_blind (instances.Build i) m e = λ a b f g n p. rw (not_build m e.1) refl
 instance_blind (instances.Placing q) m e = placing_blind _ m e.0
-instance_blind (instances.PlaceName q x) m e a b f g n p = rw (not_ident m e.0) refl
+instance_blind (instances.PlaceName q x) m e = λ a b f g n p. rw (not_ident m e.0) refl
 instance_blind (instances.PlaceNames q x k ws) m e = place_names_blind _ x k _ m e.0
-instance_blind (instances.Becomes i w k ws) m e a b f g n p = refl
+instance_blind (instances.Becomes i w k ws) m e = λ a b f g n p. refl
 
 instance_whole : (s : InstanceState) → ByWhole (instance_state s) Ident
 instance_whole (instances.Conditioned i) a f g n p = refl
@@ -165,8 +165,8 @@ begin_blind _ a b f g n p = refl
 
 kind_blind : (k : Kind) (m : Mark) → NoName m → Blind (kind k) m
 kind_blind kinds.Begin m e = begin_blind m
-kind_blind (kinds.Done c) m e a b f g n p = refl
-kind_blind (kinds.Finish c) m e a b f g n p = refl
+kind_blind (kinds.Done c) m e = λ a b f g n p. refl
+kind_blind (kinds.Finish c) m e = λ a b f g n p. refl
 kind_blind (kinds.Row r) m e = row_blind r m (not_ident m e.0)
 kind_blind (kinds.Term t) m e = term_blind t m e
 kind_blind (kinds.Binder s) m e = binder_blind s m e.0

@@ -226,29 +226,29 @@ term_blind (terms.Have h t u k) m e = have_blind _ _ u _ m e
 term_blind (terms.More h k) m e = more_blind _ _ m e
 term_blind (terms.Bare h x k) m e = bare_blind _ x _ m e
 term_blind (terms.UniverseAt h t x k) m e = universe_blind _ _ x _ m e
-term_blind (terms.Level h t k) m e a b f g n p = refl
-term_blind (terms.LevelClose h t v k) m e a b f g n p = refl
+term_blind (terms.Level h t k) m e = λ a b f g n p. refl
+term_blind (terms.LevelClose h t v k) m e = λ a b f g n p. refl
 term_blind (terms.Projecting h t k) m e = projecting_blind _ _ _ m e
-term_blind (terms.ProjectClose h t v k) m e a b f g n p = refl
+term_blind (terms.ProjectClose h t v k) m e = λ a b f g n p. refl
 
 pub term_name : (t : TermState) → ByWhole (term_state t) Ident
 term_name (terms.Want h k) = name_whole _ _
 term_name (terms.Have h t u k) = have_name _ _ u _
 term_name (terms.More h k) = more_name _ _
-term_name (terms.Bare h x k) a f g n p = refl
+term_name (terms.Bare h x k) = λ a f g n p. refl
 term_name (terms.UniverseAt h t x k) = universe_name _ _ x _
-term_name (terms.Level h t k) a f g n p = refl
-term_name (terms.LevelClose h t v k) a f g n p = refl
-term_name (terms.Projecting h t k) a f g n p = refl
-term_name (terms.ProjectClose h t v k) a f g n p = refl
+term_name (terms.Level h t k) = λ a f g n p. refl
+term_name (terms.LevelClose h t v k) = λ a f g n p. refl
+term_name (terms.Projecting h t k) = λ a f g n p. refl
+term_name (terms.ProjectClose h t v k) = λ a f g n p. refl
 
 pub term_pair : (t : TermState) (s : Second) → ByWhole (term_state t) (Pair s)
 term_pair (terms.Want h k) s = pair_whole _ _ s
 term_pair (terms.Have h t u k) s = have_pair _ _ u _ s
 term_pair (terms.More h k) s = more_pair _ _ s
-term_pair (terms.Bare h x k) s a f g n p = refl
+term_pair (terms.Bare h x k) s = λ a f g n p. refl
 term_pair (terms.UniverseAt h t x k) s = universe_pair _ _ x _ s
-term_pair (terms.Level h t k) s a f g n p = refl
-term_pair (terms.LevelClose h t v k) s a f g n p = refl
-term_pair (terms.Projecting h t k) s a f g n p = refl
-term_pair (terms.ProjectClose h t v k) s a f g n p = refl
+term_pair (terms.Level h t k) s = λ a f g n p. refl
+term_pair (terms.LevelClose h t v k) s = λ a f g n p. refl
+term_pair (terms.Projecting h t k) s = λ a f g n p. refl
+term_pair (terms.ProjectClose h t v k) s = λ a f g n p. refl

@@ -9,6 +9,9 @@ use Rattle.hb_grammar.specs.declared.mark.Mark.TheVariants.{Ident, Pair, Prop, U
 use Rattle.hb_grammar.specs.Leaf.{Sign, Leaf, leaf, late}
 use Rattle.hb_grammar.specs.Part.{Part}
 use Rattle.hb_grammar.specs.Machine as plain
+use Rattle.hb_reader.specs.declared.listing.ListState.{ListState}
+use Rattle.hb_reader.specs.declared.listing.ListState.TheVariants as lists
+use Rattle.hb_reader.specs.States.{list_state}
 use Rattle.hb_reader.specs.Views.{bound_by, bound_in}
 use Rattle.hb_reader.specs.Arguments.{begins_argument}
 use Rattle.hb_reader.specs.Measures.{bracketed_leaf}
@@ -93,3 +96,13 @@ placing_leaf_is p _ w = refl
 pub place_leaf_else : (ws : List Word) (m : Mark) (w : Sign) → (m ≡ Ident → ⊥) → plain.place_leaf ws m w ≡ leaf m w 1 0
 place_leaf_else ws Ident w n = absurd (n refl)
 place_leaf_else ws _ w n = refl
+
+-- items and fields are in no bracket
+pub list_leaf : (s : ListState) (m : Mark) (w : Sign) → plain.read (list_state s) m w ≡ leaf m w 0 0
+list_leaf (lists.Factory l is) m w = refl
+list_leaf (lists.Carrier l is f) m w = refl
+list_leaf (lists.Items l is) m w = refl
+list_leaf (lists.ItemOrEnd x n c is) m w = ap (λ d. leaf m w d 0) (same_ways (plain.same Ident m) 0)
+list_leaf (lists.Brace r) m w = refl
+list_leaf (lists.Fields r fs) m w = refl
+list_leaf (lists.Colon r fs f) m w = refl

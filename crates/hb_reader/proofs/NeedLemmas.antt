@@ -2,6 +2,7 @@
 use Rattle.std.proofs.Common.{◌≡◌, Bool, true, false, refl}
 use Rattle.hb_grammar.specs.declared.mark.Mark.{Mark}
 use Rattle.hb_grammar.specs.Machine as plain
+use Rattle.hb_reader.specs.declared.need.Need.TheVariants.{Nothing}
 use Rattle.hb_reader.specs.Needs.{row_need, name_need, need, is_row}
 use Rattle.hb_reader.specs.States.{is_between}
 
@@ -15,3 +16,7 @@ need_name plain.begin m b e = absurd (cc)
 need_name (plain.take d n f) m b e = absurd (cc)
 need_name (plain.either d n f e o g) m b h = absurd (cc)
 need_name _ m b e = refl
+
+pub need_begin : (s : plain.State) (m : Mark) → is_between s ≡ true → need s m ≡ Nothing
+need_begin plain.begin m e = refl
+need_begin _ m e = absurd (cc)

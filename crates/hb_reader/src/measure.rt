@@ -185,7 +185,8 @@ fn argument_or_close(number: u64, around: &Stack, mark: Mark) -> Measure
 
 /// A token in a term that begins no argument.
 pub fn within(around: &Stack) -> Measure
-    ensures { (m : marks.Mark) (w : leaf.Sign) → IsMeasure result (leaf.leaf m w (plain.depth (stack around.now)) 0) }
+    ensures nested { result.nested ≡ counted (plain.depth (stack around.now)) }
+    ensures applied { result.applied ≡ 0 }
 {
     Measure {
         nested: depth(around),
@@ -198,7 +199,8 @@ pub fn wanted(b: &Before, around: &Stack, mark: Mark) -> Measure
     ensures { (w : leaf.Sign) → IsMeasure result (plain.begun_leaf (before b.now) (stack around.now) mark w) }
 {
     match mark {
-        Mark::Forall | Mark::Fun => within(around),
+        Mark::Forall => within(around),
+        Mark::Fun => within(around),
         _ => argument(count(b), around, mark),
     }
 }
@@ -208,7 +210,8 @@ pub fn behind(b: &Before, is_universe: bool, around: &Stack, mark: Mark) -> Meas
     ensures { (a : shape.Part) (w : leaf.Sign) → IsMeasure result (plain.behind_leaf (before b.now) a is_universe (stack around.now) mark w) }
 {
     match mark {
-        Mark::Project | Mark::Arrow => within(around),
+        Mark::Project => within(around),
+        Mark::Arrow => within(around),
         Mark::At => behind_at(b, is_universe, around),
         _ => argument_or_close(count_next(b), around, mark),
     }
@@ -260,7 +263,8 @@ pub fn bound(around: &Binding, mark: Mark) -> Measure
 
 /// In the brackets of a group.
 pub fn bracketed(around: &Binding) -> Measure
-    ensures { (m : marks.Mark) (w : leaf.Sign) → IsMeasure result (leaf.leaf m w (plain.binding_depth (binding around.now) + 1) 0) }
+    ensures nested { result.nested ≡ counted (plain.binding_depth (binding around.now) + 1) }
+    ensures applied { result.applied ≡ 0 }
 {
     Measure {
         nested: binding_depth(around).saturating_add(1),

@@ -49,7 +49,9 @@ impl Kind {
         ensures { (w : leaf.Sign) → IsMeasure result (plain.read (kind self.now) mark w) }
     {
         match self {
-            Kind::Begin | Kind::Done(_) | Kind::Finish(_) => flat(0, 0),
+            Kind::Begin => flat(0, 0),
+            Kind::Done(_) => flat(0, 0),
+            Kind::Finish(_) => flat(0, 0),
             Kind::Row(r) => flat(u64::from(r.nesting(mark)), 0),
             Kind::Term(t) => t.measure(mark),
             Kind::Binder(b) => b.measure(mark),

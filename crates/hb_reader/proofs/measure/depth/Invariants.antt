@@ -4,5 +4,5 @@ use Rattle.hb_reader.specs.Views.{stack}
 use Rattle.hb_reader.specs.Measures.{counted}
 use Rattle.hb_reader.proofs.measure.depth.Given as goal
 
-abbrev pub invariant-loop-k : goal.invariant-loop-k
-invariant-loop-k l = counted (l.sum + plain.depth (stack l.now)) ≡ counted (plain.depth (stack l.fn.around))
+abbrev pub invariant-loop-now : goal.invariant-loop-now
+invariant-loop-now l = counted (l.sum + plain.depth (stack l.now)) ≡ counted (plain.depth (stack l.fn.around))

@@ -10,7 +10,7 @@ returns-in-Conditioned c = λ w. rw (c.in-Conditioned.is, bracket_leaf_is c.args
 
 pub returns-in-Placing : goal.returns-in-Placing
 returns-in-Placing c = λ w.
-    rw (c.in-Placing.is, placing_leaf_is (placing c.in-Placing.p.now) c.args.mark w, ← c.argument.ensures) (c.bracket-in-Placing.ensures w)
+    rw (c.in-Placing.is, placing_leaf_is (placing c.in-Placing.p) c.args.mark w, ← c.argument.ensures) (c.bracket-in-Placing.ensures w)
 
 pub returns-in-Type : goal.returns-in-Type
 returns-in-Type c = λ w.
