@@ -12,6 +12,7 @@ use Rattle.hb_grammar.specs.Grammar.{Bounds}
 use Rattle.hb_grammar.specs.Machine as plain
 use Rattle.hb_reader.specs.declared.term.TermState.{TermState}
 use Rattle.hb_reader.specs.declared.term.TermState.TheVariants as terms
+use Rattle.hb_reader.specs.Views.{part, before, stack}
 use Rattle.hb_reader.specs.States.{term_state}
 use Rattle.hb_reader.proofs.AlikeRows.{sign_of, Blind, ByWhole}
 
@@ -228,7 +229,7 @@ term_blind (terms.Bare h x k) m e = bare_blind _ x _ m e
 term_blind (terms.UniverseAt h t x k) m e = universe_blind _ _ x _ m e
 term_blind (terms.Level h t k) m e = λ a b f g n p. refl
 term_blind (terms.LevelClose h t v k) m e = λ a b f g n p. refl
-term_blind (terms.Projecting h t k) m e = projecting_blind _ _ _ m e
+term_blind (terms.Projecting h t k) m e = projecting_blind (before h) (part t) (stack k) m e
 term_blind (terms.ProjectClose h t v k) m e = λ a b f g n p. refl
 
 pub term_name : (t : TermState) → ByWhole (term_state t) Ident
