@@ -159,7 +159,6 @@ impl State {
     pub fn needs(&self, mark: Mark) -> Need
         ensures exactly { result ≡ need (state self.now) mark }
         ensures suffices { (w v : leaf.Sign) → Agree result w v → plain.step (state self.now) mark w ≡ plain.step (state self.now) mark v }
-        ensures exactly { (w : leaf.Sign) → IsSome (plain.step (state self.now) mark w) → result ≡ need (state self.now) mark }
     {
         self.kind.needs(mark)
     }

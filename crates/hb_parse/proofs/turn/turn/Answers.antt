@@ -44,7 +44,7 @@ returns-in-Err-clause-stop c =
     let w = sign c.unnamed.result in
     rw (← c.mark-mark.ensures) (IfErr-weaker c.overfull.result (λ e. Overfull s c.mark-mark.result w c.in-Err.fault e)
     (λ e. Stops c.numbers.new.names s c.mark-mark.result c.args.text.now e)
-    (overfull c.numbers.new.names s c.mark-mark.result c.args.text.now w c.needs.result c.in-Err.fault (c.needs.ensures.exactly w)
+    (overfull c.numbers.new.names s c.mark-mark.result c.args.text.now w c.needs.result c.in-Err.fault (λ _. c.needs.ensures.exactly)
     (λ f. c.numbers.ensures.too_many (c.in-Err.is ∙ ap Err f))) c.overfull.ensures.stop)
 
 pub returns-in-Err-clause-kept : goal.returns-in-Err-clause-kept
@@ -57,7 +57,7 @@ returns-in-Ok-clause-counted c =
     rw (← c.mark-mark.ensures) (IfOk-weaker c.advance.result (λ t. step s c.mark-mark.result w ≡ Some (state t))
     (λ t. Counted c.args.names.now c.numbers.new.names s c.mark-mark.result (state t))
     (λ t h. counted c.args.names.now c.numbers.new.names s (state t) c.mark-mark.result w c.needs.result h
-    (c.needs.ensures.exactly w) c.in-Ok.ensures.counted) c.advance.ensures.next)
+    (λ _. c.needs.ensures.exactly) c.in-Ok.ensures.counted) c.advance.ensures.next)
 
 pub returns-in-Err-clause-counted : goal.returns-in-Err-clause-counted
 returns-in-Err-clause-counted c = IfOk-weaker c.overfull.result _ _ (λ s h. absurd h) c.overfull.ensures.never
