@@ -7,3 +7,4 @@ pub mod Loads
 pub mod LoadSteps
 pub mod NamesLemmas
 pub mod Needed
+pub mod Exact

@@ -91,3 +91,14 @@ AreHeld names cs = (i : ℕ) → length names ≤ i → uses i cs ≡ 0
 -- each new name stands in the sentences
 abbrev pub AddsOnly : List (List ℕ) → List (List ℕ) → List Sentence → Type 0
 AddsOnly old new cs = (i : ℕ) → length old ≤ i → i < length new → 0 < uses i cs
+
+-- a fault of form
+abbrev pub IsFormFault : ParseRefused → Type 0
+IsFormFault (Syntax at) = Unit {0}
+IsFormFault (TooDeep at) = Unit {0}
+IsFormFault (TooMany count at) = ⊥
+IsFormFault NoMemory = ⊥
+
+-- the tokens read as no sentences, within the limits
+abbrev pub ReadsNone : List (List ℕ) → List ℕ → List Token → Type 0
+ReadsNone names bytes ts = (ν : Numbering) → Agrees ν names → (cs : List Sentence) → ¬ (Reads limits (file_of ν bytes ts) cs)

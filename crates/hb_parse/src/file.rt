@@ -1,7 +1,7 @@
 //! The commands of a file.
 ghost use Rattle.std.specs.Prelude.{◌≡◌, ◌≤◌, ◌<◌, ◌^◌, length, IfOk, IfErr, OnOk};
 ghost use Rattle.hb_raw.specs.Views.{sentences};
-ghost use Rattle.hb_parse.specs.Answers.{AddsOnly, AreHeld, AreTokens, ReadsAs, Refuses, file_number, place_at};
+ghost use Rattle.hb_parse.specs.Answers.{AddsOnly, AreHeld, AreTokens, IsFormFault, ReadsAs, ReadsNone, Refuses, file_number, place_at};
 ghost use Rattle.hb_parse.specs.Numbers.{Extends};
 ghost use Rattle.hb_parse.specs.Turns.{refusal};
 
@@ -26,6 +26,7 @@ pub fn parse(
     requires tokens { AreTokens bytes.now tokens.now }
     ensures read { IfOk result (λ cs. ReadsAs names.new bytes.now tokens.now (sentences cs.items)) }
     ensures refused { IfErr result (λ e. Refuses names.new bytes.now tokens.now e) }
+    ensures none { IfErr result (λ e. IsFormFault e → ReadsNone names.new bytes.now tokens.now) }
 
     // The names that were held keep their numbers; after `Ok` each further one is a command's.
     ensures kept { Extends names.old names.new }

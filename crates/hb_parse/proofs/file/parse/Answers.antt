@@ -12,6 +12,8 @@ use Rattle.hb_parse.specs.Marks.{piece, mark_of}
 use Rattle.hb_parse.proofs.Ascii.{token_ascii}
 use Rattle.hb_parse.proofs.FileLemmas.{no_token, token_at, agrees-old, extends-more, next_token, sentence_ends, sentence_goes_on, going_moving, stopped, at_begin, file_read, file_cut}
 use Rattle.hb_parse.proofs.NamesLemmas.{Named, named-none, named-step, named-ended, named-all}
+use Rattle.hb_parse.specs.declared.error.ParseRefused.TheVariants.{Syntax}
+use Rattle.hb_parse.proofs.Exact.{form_only}
 use Rattle.hb_parse.proofs.file.parse.Goals as goal
 use Rattle.hb_parse.proofs.file.parse.Goals.{in-Ok-finished+in_ok-push-in-Ok-finished, in-Err-finished}
 
@@ -114,3 +116,11 @@ pub returns-then-whole-clause-alone : goal.returns-then-whole-clause-alone
 returns-then-whole-clause-alone c = λ i.
     (named-all c.args.names.now c.loop-i.names (sentences c.loop-i.commands.items) (state c.loop-i.state) i
     (at_begin (state c.loop-i.state) (sym c.is_begin-whole.ensures ∙ c.if-whole.true)) (c.loop-i.invariant.named i)).1
+
+pub returns-in-Err-clause-none : goal.returns-in-Err-clause-none
+returns-in-Err-clause-none c =
+    form_only c.turn.new.names c.args.bytes.now c.args.tokens.now c.refused.result (returns-in-Err-clause-refused c)
+
+pub returns-else-whole-clause-none : goal.returns-else-whole-clause-none
+returns-else-whole-clause-none c =
+    form_only c.loop-i.names c.args.bytes.now c.args.tokens.now (Syntax c.place.result) (returns-else-whole-clause-refused c)
