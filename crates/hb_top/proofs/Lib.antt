@@ -1,4 +1,2 @@
 pub mod FormLemmas
-pub mod ElaborateLemmas
 pub mod RunLemmas
-pub mod WellTyped

@@ -1,22 +1,21 @@
--- What a session has declared: names with types, each the name of an axiom.
-use Rattle.std.specs.Prelude.{ℕ, ◌+◌, List, [], ◌∷◌}
-use Rattle.hb_tree.specs.Tree.{Tree}
-use Rattle.hb_calculus.specs.Declarations.{Decl, an_axiom}
+-- What a session has: names, what is declared, and the entries of the accepted commands.
+use Rattle.std.specs.Prelude.{ℕ, List, []}
+use Rattle.hb_calculus.specs.Declarations.{Decl}
+use Rattle.hb_env.specs.declared.entry.Entry.{Entry}
+use Rattle.hb_top.specs.declared.session.Session.{Session}
 
--- the names that are declared, in order, and the type of each
 pub record State : Type 0 where
   pub names : List (List ℕ)
-  pub types : List Tree
+  pub env : List Decl
+  pub entries : List Entry
 
--- the axioms of these types, numbered from n on
-abbrev pub axioms_from : ℕ → List Tree → List Decl
-axioms_from n [] = []
-axioms_from n (t ∷ ts) = an_axiom n t ∷ axioms_from (n + 1) ts
+-- the state of a session
+abbrev pub state : Session → State
+state s = record { names = s.names; env = s.theory; entries = s.entries.items }
 
--- the environment: the name of a declaration is the text of its number
-abbrev pub environment : State → List Decl
-environment s = axioms_from 0 s.types
-
--- nothing is declared
 abbrev pub nothing : State
-nothing = record { names = []; types = [] }
+nothing = record { names = []; env = []; entries = [] }
+
+-- the state with other names
+abbrev pub with_names : State → List (List ℕ) → State
+with_names S N = record { names = N; env = S.env; entries = S.entries }

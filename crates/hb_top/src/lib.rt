@@ -1,27 +1,21 @@
-//! The top call: a file of axioms in, checked declarations and a report out.
+//! The top call: sources in, checked declarations and a report out.
 #![tactic(auto)]
 
-mod axiom;
-mod elaborate;
+mod command;
 mod finish;
-mod form;
-mod lexeme;
-mod lexemes;
-mod piece;
-mod refusal;
-mod report;
+mod last;
+mod operator;
 mod session;
+mod source;
 mod status;
-mod step;
+mod stop;
 mod top;
 mod words;
 mod work;
 
-pub use axiom::{Axiom, Part};
-pub use lexeme::Lexeme;
-pub use refusal::{Refusal, Stop, What};
 pub use session::Session;
 pub use status::Status;
+pub use stop::Stop;
 pub use top::run;
 
 #[cfg(test)]

@@ -6,9 +6,9 @@ ghost use Rattle.hb_top.specs.Exit.{status_number};
 /// The status that a run answers, and the program ends with.
 #[derive(Clone, Copy, Debug, PartialEq, Eq)]
 pub enum Status {
-    /// 0: the file was read to its end and every axiom accepted.
+    /// 0: the files were read to their ends and every command accepted.
     Done,
-    /// 1: the file or an axiom was refused; the last line says why.
+    /// 1: a file or a command was refused; the last line says why.
     Refused,
     /// 2: the words are in no row of the usage text.
     Usage,
@@ -16,6 +16,8 @@ pub enum Status {
     SourceFault,
     /// 4: the sink failed.
     SinkFault,
+    /// 5: a budget was spent; the last line says on what.
+    Spent,
     /// 6: out of memory.
     NoMemory,
 }
@@ -31,6 +33,7 @@ impl Status {
             Status::Usage => 2,
             Status::SourceFault => 3,
             Status::SinkFault => 4,
+            Status::Spent => 5,
             Status::NoMemory => 6,
         }
     }

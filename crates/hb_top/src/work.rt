@@ -1,145 +1,119 @@
-//! Working on the bytes of a source.
-ghost use Rattle.std.specs.Prelude.{◌≡◌, ◌≤◌, OnOk, IfOk, IfErr, Err, length, map, slice_get};
+//! Working on files.
+ghost use Rattle.std.specs.Prelude.{◌≡◌, ◌≤◌, ◌+◌, OnOk, IfOk, IfErr, Err, List, ℕ, length, map};
+ghost use Rattle.hb_calculus.specs.Budget.{budget};
 ghost use Rattle.hb_io.specs.Causes.{Rose};
-ghost use Rattle.hb_lex.specs.Text.{rules};
-ghost use Rattle.hb_lex.specs.Places.{Refuses};
-ghost use Rattle.hb_lex.specs.declared.error.LexRefused.TheVariants as lex;
-ghost use Rattle.hb_top.specs.Run as spec;
-ghost use Rattle.hb_top.specs.Run.{IsSource, Malformed, RanTo, Stopped, StopsIn, Took};
-ghost use Rattle.hb_top.specs.Views.{state};
-ghost use Rattle.hb_top.specs.Ways.{sentence};
+ghost use Rattle.hb_raw.specs.Views.{sentences};
+ghost use Rattle.hb_top.specs.Commands.{RanTo, StopsIn};
+ghost use Rattle.hb_top.specs.Files.{FileEnds, Files, Unread, IsRead, IsSourceFault};
+ghost use Rattle.hb_top.specs.Session.{state};
 
-use crate::axiom::Axiom;
-use crate::form::axioms;
-use crate::lexemes::lexemes;
-use crate::refusal::{Stop, What};
-use crate::report::axiom_line;
+use crate::command::take;
 use crate::session::Session;
-use crate::step::{apply, refused};
-use hb_base::Span;
-use hb_io::{Sink, SinkFault, write_all};
-use hb_lex::{LexRefused, tokens};
+use crate::source::{at_byte, commands_of, refused};
+use crate::stop::Stop;
+use hb_base::Limits;
+use hb_env::What;
+use hb_io::{Depot, DepotFault, Sink, Whole, read_whole};
+use hb_raw::Command;
 use std::alloc::Global;
 
-/// The most bytes of an identifier.
-const LONGEST: u32 = 255;
+/// The most bytes of a source: 1 MiB.
+const MOST_BYTES: usize = 1_048_576;
 
-/// The place at a byte.
-pub(crate) fn at_byte(at: u32) -> Span
-    ensures { result ≡ spec.at_byte at }
-{
-    Span {
-        file: 0,
-        from: at,
-        to: at,
-    }
-}
-
-/// The axioms of a source.
-pub(crate) fn axioms_of(alloc: Global, bytes: &[u8]) -> Result<Vec<Axiom>, Stop>
-    requires { length bytes.now ≤ 1048576 }
-    ensures source { IfOk result (λ axioms. IsSource bytes.now (map sentence axioms.items)) }
-    ensures malformed { IfErr result (Malformed bytes.now) }
-{
-    let tokens = match tokens(alloc, bytes, 0, LONGEST) {
-        Ok(tokens) => tokens,
-        Err(LexRefused::Utf8 { at }) => return Err(refused(at_byte(at), What::Utf8)),
-        Err(LexRefused::Lex { at }) => return Err(no_token(bytes, at)),
-        Err(LexRefused::NoMemory) => return Err(Stop::NoMemory),
-    };
-    let lexemes = lexemes(alloc, bytes, tokens.as_slice())?;
-    match axioms(alloc, lexemes.as_slice())? {
-        Some(axioms) => Ok(axioms),
-        None => Err(refused(at_byte(0), What::NotYet)),
-    }
-}
-
-/// The refusal of a byte without a way on: operators aren't built yet.
-fn no_token(bytes: &[u8], at: u32) -> Stop
-    requires { Refuses (rules 0 255) bytes.now (lex.Lex at) }
-    ensures { Malformed bytes.now result }
-{
-    if begins_operator(byte_at(bytes, at as usize)) {
-        refused(at_byte(0), What::NotYet)
-    } else {
-        refused(at_byte(at), What::Lex)
-    }
-}
-
-/// The byte at a place, if there is one.
-fn byte_at(bytes: &[u8], at: usize) -> Option<u8>
-    ensures { result ≡ slice_get bytes.now at }
-{
-    match bytes.get(at) {
-        Some(byte) => Some(*byte),
-        None => None,
-    }
-}
-
-/// Whether a byte begins an operator, or an operator in quotes.
-fn begins_operator(byte: Option<u8>) -> bool
-    ensures { result ≡ spec.begins_operator byte }
-{
-    match byte {
-        None => false,
-        Some(b) => {
-            b == b'"'
-                || b == b'+'
-                || b == b'*'
-                || b == b'-'
-                || b == b'/'
-                || b == b'<'
-                || b == b'>'
-                || b == b'='
-                || b == b'^'
-                || b == b'|'
-                || b == b'~'
-                || b == b'!'
-                || b == b'%'
-        }
-    }
-}
-
-/// Takes one axiom and writes its line.
-fn take<K: Sink>(
+/// Takes the commands one after another.
+fn take_all<K: Sink>(
     alloc: Global,
-    bytes: &[u8],
     session: &mut Session,
-    axiom: &Axiom,
+    commands: &[Command],
+    limits: &Limits,
     out: &mut K,
 ) -> Result<(), Stop>
-    ensures ok { OnOk result (Took bytes.now (state session.old) (sentence axiom.now) (state session.new) (K.contents out.old) (K.contents out.new)) }
-    ensures stop { IfErr result (Stopped bytes.now (state session.old) (sentence axiom.now) (state session.new) (K.contents out.old) (K.contents out.new)) }
+    ensures ok { OnOk result (RanTo (budget limits.now) (state session.old) (sentences commands.now) (state session.new) (K.contents out.old) (K.contents out.new)) }
+    ensures stop { IfErr result (StopsIn (budget limits.now) (state session.old) (sentences commands.now) (state session.new) (K.contents out.old) (K.contents out.new)) }
     ensures later { K.faults out.old ≤ K.faults out.new }
     ensures sink { result ≡ Err Stop.SinkFault → Rose (K.faults out.old) (K.faults out.new) }
 {
-    let line = axiom_line(alloc, bytes, axiom)?;
-    apply(alloc, bytes, session, axiom)?;
-    match write_all(out, line.as_bytes()) {
-        Ok(()) => Ok(()),
-        Err(SinkFault::Failed) => Err(Stop::SinkFault),
-        Err(SinkFault::NoMemory) => Err(Stop::NoMemory),
-    }
-}
-
-/// Takes the axioms one after another.
-pub(crate) fn take_all<K: Sink>(
-    alloc: Global,
-    bytes: &[u8],
-    session: &mut Session,
-    axioms: &[Axiom],
-    out: &mut K,
-) -> Result<(), Stop>
-    ensures ok { OnOk result (RanTo bytes.now (state session.old) (map sentence axioms.now) (state session.new) (K.contents out.old) (K.contents out.new)) }
-    ensures stop { IfErr result (StopsIn bytes.now (state session.old) (map sentence axioms.now) (state session.new) (K.contents out.old) (K.contents out.new)) }
-    ensures later { K.faults out.old ≤ K.faults out.new }
-    ensures sink { result ≡ Err Stop.SinkFault → Rose (K.faults out.old) (K.faults out.new) }
-{
-    for axiom in axioms {
-        match take(alloc, bytes, session, axiom, out) {
+    for command in commands {
+        match take(alloc, session, command, limits, out) {
             Ok(()) => {}
             Err(stop) => return Err(stop),
         }
     }
     Ok(())
+}
+
+/// The bytes of a file of the run.
+fn read<D: Depot>(alloc: Global, depot: &mut D, file: u16, name: &str) -> Result<Vec<u8>, Stop>
+    ensures read { IfOk result (λ bytes. IsRead (D.file depot.old name.now) bytes.items) }
+    ensures unread { IfErr result (Unread (D.file depot.old name.now) (record { faults = D.faults depot.old; faults' = D.faults depot.new; absents = D.absents depot.old; absents' = D.absents depot.new }) file) }
+    ensures same { (n : List ℕ) → D.file depot.new n ≡ D.file depot.old n }
+    ensures faults_later { D.faults depot.old ≤ D.faults depot.new }
+    ensures absents_later { D.absents depot.old ≤ D.absents depot.new }
+    ensures fault { IfErr result (λ stop. stop ≡ Stop.SinkFault → ⊥) }
+{
+    match read_whole(alloc, depot, name, MOST_BYTES) {
+        Ok(Whole::Bytes(bytes)) => Ok(bytes),
+        Ok(Whole::TooLong) => Err(refused(at_byte(file, 0), What::FileTooLong)),
+        Err(DepotFault::Absent) => Err(refused(at_byte(file, 0), What::Absent)),
+        Err(DepotFault::Failed) => Err(Stop::SourceFault(file)),
+        Err(DepotFault::NoMemory) => Err(Stop::NoMemory),
+    }
+}
+
+/// Compiles the file of the number into the session.
+fn compile_file<D: Depot, K: Sink>(
+    alloc: Global,
+    session: &mut Session,
+    limits: &Limits,
+    depot: &mut D,
+    out: &mut K,
+    file: u16,
+    name: &str,
+) -> Result<(), Stop>
+    ensures ends { FileEnds (D.file depot.old name.now) (budget limits.now) file (state session.old) (record { out = K.contents out.old; faults = D.faults depot.old; absents = D.absents depot.old }) result (state session.new) (record { out = K.contents out.new; faults = D.faults depot.new; absents = D.absents depot.new }) }
+    ensures same { (n : List ℕ) → D.file depot.new n ≡ D.file depot.old n }
+    ensures faults_later { D.faults depot.old ≤ D.faults depot.new }
+    ensures absents_later { D.absents depot.old ≤ D.absents depot.new }
+    ensures sink_later { K.faults out.old ≤ K.faults out.new }
+    ensures source { IfErr result (λ stop. IsSourceFault stop → Rose (D.faults depot.old) (D.faults depot.new)) }
+    ensures sink { result ≡ Err Stop.SinkFault → Rose (K.faults out.old) (K.faults out.new) }
+{
+    let bytes = match read(alloc, depot, file, name) {
+        Ok(bytes) => bytes,
+        Err(stop) => return Err(stop),
+    };
+    let commands = match commands_of(alloc, file, bytes.as_slice(), &mut session.names) {
+        Ok(commands) => commands,
+        Err(stop) => return Err(stop),
+    };
+    take_all(alloc, session, commands.as_slice(), limits, out)
+}
+
+/// Compiles the files in order, of which the first has the number `file`.
+pub(crate) fn compile_files<D: Depot, K: Sink>(
+    alloc: Global,
+    session: &mut Session,
+    limits: &Limits,
+    depot: &mut D,
+    out: &mut K,
+    file: u16,
+    names: &[&str],
+) -> Result<(), Stop>
+    requires { file + length names.now ≤ 64 }
+    ensures files { Files (D.file depot.old) (budget limits.now) file (map (λ name. name.now) names.now) (state session.old) (record { out = K.contents out.old; faults = D.faults depot.old; absents = D.absents depot.old }) result (state session.new) (record { out = K.contents out.new; faults = D.faults depot.new; absents = D.absents depot.new }) }
+    ensures faults_later { D.faults depot.old ≤ D.faults depot.new }
+    ensures sink_later { K.faults out.old ≤ K.faults out.new }
+    ensures source { IfErr result (λ stop. IsSourceFault stop → Rose (D.faults depot.old) (D.faults depot.new)) }
+    ensures sink { result ≡ Err Stop.SinkFault → Rose (K.faults out.old) (K.faults out.new) }
+{
+    match names {
+        [] => Ok(()),
+        [first, rest @ ..] => {
+            match compile_file(alloc, session, limits, depot, out, file, first) {
+                Ok(()) => {}
+                Err(stop) => return Err(stop),
+            }
+            compile_files(alloc, session, limits, depot, out, file + 1, rest)
+        }
+    }
 }

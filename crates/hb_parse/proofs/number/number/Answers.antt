@@ -1,0 +1,6 @@
+use Rattle.std.proofs.lemmas.Str.{IsUtf8-from_ascii}
+use Rattle.hb_parse.proofs.number.number.Goals as goal
+
+pub unreachable-requires : goal.unreachable-requires
+unreachable-requires c =
+    absurd (c.in-Err.ensures.cases.0 (IsUtf8-from_ascii c.args.text.now c.requires))

@@ -1,0 +1,9 @@
+pub mod GroupLemmas
+pub mod MarkLemmas
+pub mod WordLemmas
+pub mod StateLemmas
+pub mod NeedLemmas
+pub mod AlikeRows
+pub mod AlikeTerms
+pub mod AlikeStates
+pub mod MeasureLemmas

@@ -1,0 +1,14 @@
+//! The lines of the report.
+#![tactic(auto)]
+
+mod cut;
+mod lines;
+mod refusals;
+mod values;
+
+pub use lines::{event_line, list_line, refused_line};
+pub use refusals::Value;
+pub use values::name_text;
+
+#[cfg(test)]
+mod tests;

@@ -1,0 +1,37 @@
+//! Why a run ends early.
+ghost use Rattle.std.specs.Prelude.{◌≡◌};
+
+use hb_env::Refusal;
+use std::alloc::{AllocError, AllocFailed};
+
+/// Why a run ends before its work is done.
+#[derive(Drop)]
+pub enum Stop {
+    /// A file or a command is refused, or a budget is spent on it. The file is the span's.
+    Refused(Refusal),
+    /// The depot failed at the file of this number.
+    SourceFault(u16),
+    /// The sink failed.
+    SinkFault,
+    NoMemory,
+}
+
+impl From<AllocError> for Stop {
+    ghost use Rattle.hb_top.specs.declared.stop.Stop.{Stop};
+
+    ghost from_gives = { λ _ stop. stop ≡ Stop.NoMemory };
+
+    fn from(_: AllocError) -> Stop {
+        Stop::NoMemory
+    }
+}
+
+impl<T: Drop> From<AllocFailed<T>> for Stop {
+    ghost use Rattle.hb_top.specs.declared.stop.Stop.{Stop};
+
+    ghost from_gives = { λ _ stop. stop ≡ Stop.NoMemory };
+
+    fn from(_: AllocFailed<T>) -> Stop {
+        Stop::NoMemory
+    }
+}

@@ -1,0 +1,229 @@
+//! Terms.
+ghost use Rattle.std.specs.Prelude.{◌≡◌, ◌+◌, ◌-◌, ◌*◌, ◌<◌, ◌++◌, IfOk, OnOk, List, ℕ, string_bytes, take};
+ghost use Rattle.hb_calculus.specs.Declarations.{Decl};
+ghost use Rattle.hb_tree.specs.Tree.{nodes};
+ghost use Rattle.hb_term.specs.Meaning.{tree};
+ghost use Rattle.hb_writer.specs.Pieces.{piece_text, stack_text, weight, weights};
+ghost use Rattle.hb_writer.specs.Text as spec;
+ghost use Rattle.hb_writer.specs.Text.{text};
+
+use crate::names::{constant_name, field_name};
+use crate::piece::Piece;
+use crate::stack::put_before;
+use hb_base::Names;
+use hb_env::Env;
+use hb_term::{Scoped, Sort, Term, View};
+use std::alloc::{AllocError, Global};
+
+/// The text of a term: variables are `_0`, `_1`, .., the outermost first. What the environment or the
+/// names don't have is written `!n`, with the number of its declaration. Out of memory is the one error.
+pub fn term_text(
+    alloc: Global,
+    names: &Names,
+    env: &Env,
+    term: &Scoped,
+) -> Result<String, AllocError>
+    ensures { IfOk result (λ s. string_bytes s ≡ text names.now env.now term.now.depth (tree term.now.term)) }
+{
+    match term_front(alloc, names, env, term, usize::MAX) {
+        Ok(text) => Ok(text),
+        Err(error) => Err(error),
+    }
+}
+
+/// A text whose first `most` bytes are those of the term's text. It takes the time of these bytes,
+/// however long the text is, and no stack for the depth of the term. Out of memory is the one error.
+pub fn term_front(
+    alloc: Global,
+    names: &Names,
+    env: &Env,
+    term: &Scoped,
+    most: usize,
+) -> Result<String, AllocError>
+    ensures { IfOk result (λ s. take most (string_bytes s) ≡ take most (text names.now env.now term.now.depth (tree term.now.term))) }
+{
+    let mut out = String::new(alloc);
+    let mut stack = Vec::new(alloc);
+    stack.push(Piece::Part(u64::from(term.depth()), term.term()))?;
+    'pieces: while out.as_bytes().len() < most {
+        match stack.pop() {
+            Some(piece) => write_piece(alloc, names, env, piece, &mut stack, &mut out)?,
+            None => return Ok(out),
+        }
+    }
+    Ok(out)
+}
+
+/// Writes a piece, or takes a term apart into pieces.
+fn write_piece<'a>(
+    alloc: Global,
+    names: &Names,
+    env: &Env,
+    piece: Piece<'a>,
+    stack: &mut Vec<Piece<'a>>,
+    out: &mut String,
+) -> Result<(), AllocError>
+    ensures text { OnOk result (string_bytes out.new ++ stack_text names.now env.now stack.new.items ≡ string_bytes out.old ++ (piece_text names.now env.now piece.entry ++ stack_text names.now env.now stack.old.items)) }
+    ensures falls { OnOk result (weights stack.new.items < weight piece.entry + weights stack.old.items) }
+{
+    match piece {
+        Piece::Sign(sign) => {
+            out.push_str(sign)?;
+            Ok(())
+        }
+        Piece::Number(number) => {
+            let digits = format!(in alloc; "{number}")?;
+            out.push_str(digits.as_str())?;
+            Ok(())
+        }
+        Piece::Name(Some(name), _) if (name.0 as usize) < names.len() => {
+            out.push_str(names.text(name))?;
+            Ok(())
+        }
+        Piece::Name(_, number) => put_before(
+            stack,
+            &[Piece::Sign("!"), Piece::Number(u64::from(number))],
+        ),
+        Piece::Part(depth, term) => take_apart(env, depth, term, stack),
+    }
+}
+
+/// Puts the pieces of a term on the stack.
+fn take_apart<'a>(
+    env: &Env,
+    depth: u64,
+    term: &'a Term,
+    stack: &mut Vec<Piece<'a>>,
+) -> Result<(), AllocError>
+    ensures text { OnOk result ((N : List (List ℕ)) → stack_text N env.now stack.new.items ≡ text N env.now depth (tree term.now) ++ stack_text N env.now stack.old.items) }
+    ensures falls { OnOk result (weights stack.new.items < 8 * nodes (tree term.now) + weights stack.old.items) }
+{
+    match term.view() {
+        View::Sort(Sort::Prop) => put_before(stack, &[Piece::Sign("Prop")]),
+        View::Sort(Sort::Level(level)) => put_before(
+            stack,
+            &[
+                Piece::Sign("Type@{"),
+                Piece::Number(u64::from(level)),
+                Piece::Sign("}"),
+            ],
+        ),
+        View::Rel(v) => {
+            let level = depth.saturating_sub(1).saturating_sub(u64::from(v));
+            put_before(stack, &[Piece::Sign("_"), Piece::Number(level)])
+        }
+        View::Pi(domain, codomain) => {
+            let inside = depth.checked_add(1).ok_or(AllocError)?;
+            if codomain.occurs(0) {
+                put_before(
+                    stack,
+                    &[
+                        Piece::Sign("forall _"),
+                        Piece::Number(depth),
+                        Piece::Sign(" : "),
+                        Piece::Part(depth, domain),
+                        Piece::Sign(", "),
+                        Piece::Part(inside, codomain),
+                    ],
+                )
+            } else {
+                let wrapped = is_binder(domain);
+                put_before(
+                    stack,
+                    &[
+                        opening(wrapped),
+                        Piece::Part(depth, domain),
+                        closing(wrapped),
+                        Piece::Sign(" -> "),
+                        Piece::Part(inside, codomain),
+                    ],
+                )
+            }
+        }
+        View::Lam(domain, body) => {
+            let inside = depth.checked_add(1).ok_or(AllocError)?;
+            put_before(
+                stack,
+                &[
+                    Piece::Sign("fun _"),
+                    Piece::Number(depth),
+                    Piece::Sign(" : "),
+                    Piece::Part(depth, domain),
+                    Piece::Sign(" => "),
+                    Piece::Part(inside, body),
+                ],
+            )
+        }
+        View::App(function, argument) => {
+            let head = is_binder(function);
+            let side = is_compound(argument);
+            put_before(
+                stack,
+                &[
+                    opening(head),
+                    Piece::Part(depth, function),
+                    closing(head),
+                    Piece::Sign(" "),
+                    opening(side),
+                    Piece::Part(depth, argument),
+                    closing(side),
+                ],
+            )
+        }
+        View::Const(constant) => put_before(
+            stack,
+            &[Piece::Name(constant_name(env, constant), constant.decl)],
+        ),
+        View::Proj(rec, field, of) => {
+            let wrapped = is_compound(of);
+            put_before(
+                stack,
+                &[
+                    opening(wrapped),
+                    Piece::Part(depth, of),
+                    closing(wrapped),
+                    Piece::Sign(".("),
+                    Piece::Name(field_name(env, rec, field), rec.0),
+                    Piece::Sign(")"),
+                ],
+            )
+        }
+        View::Hole(hole) => put_before(stack, &[Piece::Sign("?"), Piece::Number(u64::from(hole))]),
+    }
+}
+
+/// A parenthesis before, where it is wanted.
+fn opening<'a>(wanted: bool) -> Piece<'a>
+    ensures text { (N : List (List ℕ)) (E : List Decl) → piece_text N E result ≡ spec.opening wanted }
+    ensures weight { weight result ≡ 1 }
+{
+    Piece::Sign(if wanted { "(" } else { "" })
+}
+
+/// A parenthesis behind, where it is wanted.
+fn closing<'a>(wanted: bool) -> Piece<'a>
+    ensures text { (N : List (List ℕ)) (E : List Decl) → piece_text N E result ≡ spec.closing wanted }
+    ensures weight { weight result ≡ 1 }
+{
+    Piece::Sign(if wanted { ")" } else { "" })
+}
+
+/// Whether a term is a product or a function.
+fn is_binder(term: &Term) -> bool
+    ensures { result ≡ spec.is_binder (tree term.now) }
+{
+    match term.view() {
+        View::Pi(_, _) | View::Lam(_, _) => true,
+        _ => false,
+    }
+}
+
+/// Whether a term is a product, a function or an application.
+fn is_compound(term: &Term) -> bool
+    ensures { result ≡ spec.is_compound (tree term.now) }
+{
+    match term.view() {
+        View::Pi(_, _) | View::Lam(_, _) | View::App(_, _) => true,
+        _ => false,
+    }
+}
