@@ -42,7 +42,8 @@ pub struct Binder {
     pub ty: Option<Raw>,
 }
 
-/// Goes down a chain of projections without recursion, as nothing bounds its length.
+/// Goes down chains of projections, and of binders in the types of lone binders, without recursion, as
+/// nothing bounds their lengths: the rest is as deep as the nesting of its source.
 impl Drop for RawKind {
     #[cycle(raw)]
     fn drop(mut self) {
@@ -57,7 +58,19 @@ impl Drop for RawKind {
                 | RawKind::Hole
                 | RawKind::Prop
                 | RawKind::Level(_) => return,
-                RawKind::Forall(_, _) | RawKind::Fun(_, _) => return,
+                RawKind::Forall(binders, body) | RawKind::Fun(binders, body) => {
+                    drop(body);
+                    let mut binders = binders;
+                    let Some(last) = binders.pop() else {
+                        return;
+                    };
+                    let Binder { names: _, ty } = last;
+                    let Some(inner) = ty else {
+                        return;
+                    };
+                    let Raw { span: _, kind } = inner;
+                    self = kind;
+                }
                 RawKind::Arrow(_, _) | RawKind::App(_, _) | RawKind::Cast(_, _) => return,
             }
         }
