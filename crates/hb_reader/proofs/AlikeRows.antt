@@ -25,7 +25,7 @@ use Rattle.hb_reader.specs.declared.fork.Fork.TheVariants as forks
 use Rattle.hb_reader.specs.Rows.{taking, head_row, query_row, carrier_row, builders_row, structure_row, forking, row}
 use Rattle.hb_reader.specs.declared.need.Need.{Need}
 use Rattle.hb_reader.specs.declared.need.Need.TheVariants.{Nothing, Whole, First, Both}
-use Rattle.hb_reader.specs.Needs.{Agree, need}
+use Rattle.hb_reader.specs.Needs.{Agree}
 
 abbrev pub sign_of : NameId → NameId → ℕ → Span → Sign
 sign_of a f n p = record { whole = a; first = f; value = n; place = p }

@@ -1,9 +1,9 @@
 -- How many names groups bind.
-use Rattle.std.proofs.Common.{◌≡◌, ℕ, ◌+◌, List, [], ◌∷◌, ◌++◌, length, map, Option, Some, None, refl, ap, arith}
+use Rattle.std.proofs.Common.{◌≡◌, ◌+◌, List, [], ◌∷◌, ◌++◌, length, Option, Some, None, refl, arith}
 use Rattle.std.proofs.lemmas.List.{map-append}
 use Rattle.hb_base.specs.declared.name_id.NameId.{NameId}
 use Rattle.hb_base.specs.declared.span.Span.{Span}
-use Rattle.hb_raw.specs.Preterm.{Preterm, Group, untyped, typed}
+use Rattle.hb_raw.specs.Preterm.{Preterm, Group, untyped}
 use Rattle.hb_raw.specs.Views.{group_of}
 use Rattle.hb_grammar.specs.Machine as plain
 use Rattle.hb_reader.specs.Views.{bound_by, bound_in}

@@ -1,5 +1,5 @@
 -- The reader's steps at the marks that no case of the code names.
-use Rattle.std.proofs.Common.{◌≡◌, ℕ, Bool, true, false, List, length, Option, Some, None, refl}
+use Rattle.std.proofs.Common.{◌≡◌, ℕ, Bool, true, false, List, length, Some, None, refl}
 use Rattle.hb_base.specs.declared.span.Span.{Span}
 use Rattle.hb_raw.specs.Preterm.{Group}
 use Rattle.hb_grammar.specs.declared.mark.Mark.{Mark}

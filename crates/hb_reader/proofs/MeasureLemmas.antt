@@ -1,12 +1,12 @@
 -- What the code counts.
-use Rattle.std.proofs.Common.{◌≡◌, ℕ, ◌+◌, ◌<◌, Bool, true, false, List, [], ◌∷◌, ◌++◌, length, map, take, get_or, cond, refl, ap, ◌∙◌, sym}
+use Rattle.std.proofs.Common.{◌≡◌, ℕ, ◌+◌, ◌<◌, Bool, true, false, List, [], ◌∷◌, ◌++◌, length, take, get_or, cond, refl, ap, ◌∙◌, sym}
 use Rattle.std.proofs.lemmas.List.{take_more, map-append}
 use Rattle.hb_raw.specs.declared.raw.Binder.{Binder}
 use Rattle.hb_raw.specs.declared.word.Word.{Word}
 use Rattle.hb_raw.specs.Views.{group, groups}
 use Rattle.hb_grammar.specs.declared.mark.Mark.{Mark}
 use Rattle.hb_grammar.specs.declared.mark.Mark.TheVariants.{Ident, Pair, Prop, Universe, Forall, Fun, Hole, Open, Brace, Arrow, At, Project}
-use Rattle.hb_grammar.specs.Leaf.{Sign, Leaf, leaf, late}
+use Rattle.hb_grammar.specs.Leaf.{Sign, leaf, late}
 use Rattle.hb_grammar.specs.Part.{Part}
 use Rattle.hb_grammar.specs.Machine as plain
 use Rattle.hb_reader.specs.declared.listing.ListState.{ListState}

@@ -1,5 +1,5 @@
 -- What a step reads, by the kind of its state.
-use Rattle.std.proofs.Common.{◌≡◌, Bool, true, false, refl}
+use Rattle.std.proofs.Common.{◌≡◌, true, false, refl}
 use Rattle.hb_grammar.specs.declared.mark.Mark.{Mark}
 use Rattle.hb_grammar.specs.Machine as plain
 use Rattle.hb_reader.specs.declared.need.Need.TheVariants.{Nothing}

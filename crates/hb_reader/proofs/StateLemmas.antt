@@ -1,5 +1,5 @@
 -- Which states are between two sentences, and which have finished one.
-use Rattle.std.proofs.Common.{◌≡◌, Bool, false, Option, None, refl}
+use Rattle.std.proofs.Common.{◌≡◌, false, None, refl}
 use Rattle.hb_raw.specs.declared.command.Command.{Command}
 use Rattle.hb_grammar.specs.Machine as plain
 use Rattle.hb_reader.specs.declared.row.Row.{Row}

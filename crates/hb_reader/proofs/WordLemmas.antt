@@ -1,5 +1,5 @@
 -- Carriers with arguments.
-use Rattle.std.proofs.Common.{◌≡◌, ℕ, ◌+◌, ◌<◌, List, [], ◌∷◌, ◌++◌, length, map, take, get_or, slice_index_or, refl, ap, ◌∙◌}
+use Rattle.std.proofs.Common.{◌≡◌, ℕ, ◌+◌, ◌<◌, List, [], ◌∷◌, ◌++◌, length, map, take, get_or, slice_index_or, refl}
 use Rattle.std.proofs.lemmas.List.{take_more}
 use Rattle.hb_raw.specs.declared.word.Word.{Word}
 use Rattle.hb_raw.specs.Preterm.{preterm, applied, preterms_of}

@@ -1,5 +1,5 @@
 -- Rows of known tokens: which token has to come at each place, at which nesting, and what then.
-use Rattle.std.specs.Prelude.{ℕ, List, [], ◌∷◌, Some, None}
+use Rattle.std.specs.Prelude.{ℕ, [], Some, None}
 use Rattle.hb_base.specs.declared.span.Span.{Span}
 use Rattle.hb_raw.specs.declared.word.Word.{Word}
 use Rattle.hb_raw.specs.declared.word.Item.{Item}

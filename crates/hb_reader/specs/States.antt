@@ -1,11 +1,10 @@
 -- What the reader's states stand for.
 use Rattle.std.specs.Prelude.{List, [], ◌∷◌, ◌++◌, map, Option, Some, None, Bool, true, false}
-use Rattle.hb_base.specs.declared.span.Span.{Span}
 use Rattle.hb_raw.specs.declared.word.Word.{Word}
 use Rattle.hb_raw.specs.declared.word.Item.{Item}
 use Rattle.hb_raw.specs.Sentence.{Sentence}
 use Rattle.hb_raw.specs.Views.{act, command, groups, field}
-use Rattle.hb_grammar.specs.declared.mark.Mark.TheVariants.{Ident, Pair, Universe, Number, Close, Brace, Unbrace, Colon, Becomes, End}
+use Rattle.hb_grammar.specs.declared.mark.Mark.TheVariants.{Ident, Pair, Close, Unbrace, Colon, Becomes}
 use Rattle.hb_grammar.specs.declared.mark.Second.TheVariants as second
 use Rattle.hb_grammar.specs.Leaf.{word, first_word}
 use Rattle.hb_grammar.specs.Part as shape

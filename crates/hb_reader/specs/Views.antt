@@ -1,7 +1,5 @@
 -- What the reader's values stand for.
-use Rattle.std.specs.Prelude.{ℕ, ◌+◌, List, [], ◌∷◌, length, map, Option, Some, None, option_map}
-use Rattle.hb_base.specs.declared.name_id.NameId.{NameId}
-use Rattle.hb_base.specs.declared.span.Span.{Span}
+use Rattle.std.specs.Prelude.{ℕ, ◌+◌, List, [], ◌∷◌, length, map, option_map}
 use Rattle.hb_raw.specs.Preterm.{Group, untyped, typed}
 use Rattle.hb_raw.specs.Views.{term, terms, groups, field}
 use Rattle.hb_grammar.specs.Part as shape

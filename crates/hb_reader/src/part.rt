@@ -36,42 +36,49 @@ fn whole(span: Span, kind: RawKind) -> Part
     }
 }
 
+/// A name.
 pub fn name_part(word: Word) -> Part
     ensures { part result ≡ spec.name_part word }
 {
     whole(word.span, RawKind::Name(word.name))
 }
 
+/// `@n`.
 pub fn bare_part(at: Span, word: Word) -> Part
     ensures { part result ≡ spec.bare_part at word }
 {
     whole(joined(at, word.span), RawKind::At(word.name))
 }
 
+/// `_`.
 pub fn hole_part(at: Span) -> Part
     ensures { part result ≡ spec.hole_part at }
 {
     whole(at, RawKind::Hole)
 }
 
+/// `Prop`.
 pub fn prop_part(at: Span) -> Part
     ensures { part result ≡ spec.prop_part at }
 {
     whole(at, RawKind::Prop)
 }
 
+/// `Type`, which is `Type@{0}`.
 pub fn type_part(at: Span) -> Part
     ensures { part result ≡ spec.type_part at }
 {
     whole(at, RawKind::Level(0))
 }
 
+/// `Type@{k}`: from `Type` to `}`.
 pub fn level_part(t: Part, level: u8, close: Span) -> Part
     ensures { part result ≡ spec.level_part (part t) level close }
 {
     whole(joined(t.extent, close), RawKind::Level(level))
 }
 
+/// A term in parentheses: the term inside, whose extent has them.
 pub fn bracketed(start: Span, t: Part, close: Span) -> Part
     ensures { part result ≡ spec.bracketed start (part t) close }
 {
@@ -81,6 +88,7 @@ pub fn bracketed(start: Span, t: Part, close: Span) -> Part
     }
 }
 
+/// `(t : T)`, with its parentheses.
 pub fn cast_part(
     alloc: Global,
     start: Span,
@@ -95,6 +103,7 @@ pub fn cast_part(
     Ok(whole(joined(start, close), RawKind::Cast(t, ty)))
 }
 
+/// `t.(n)`, to its `)`.
 pub fn projected_part(alloc: Global, t: Part, name: NameId, close: Span) -> Result<Part, AllocError>
     ensures { IfOk result (λ p. part p ≡ spec.projected_part (part t) name close) }
 {
@@ -103,6 +112,7 @@ pub fn projected_part(alloc: Global, t: Part, name: NameId, close: Span) -> Resu
     Ok(whole(span, RawKind::Proj(t, name)))
 }
 
+/// `a -> b`.
 pub fn arrow_part(alloc: Global, a: Part, b: Part) -> Result<Part, AllocError>
     ensures { IfOk result (λ p. part p ≡ spec.arrow_part (part a) (part b)) }
 {
@@ -112,6 +122,7 @@ pub fn arrow_part(alloc: Global, a: Part, b: Part) -> Result<Part, AllocError>
     Ok(whole(span, RawKind::Arrow(a, b)))
 }
 
+/// `forall`, from its word to the end of its body.
 pub fn product_part(
     alloc: Global,
     start: Span,
@@ -125,6 +136,7 @@ pub fn product_part(
     Ok(whole(span, RawKind::Forall(binders, body)))
 }
 
+/// `fun`, from its word to the end of its body.
 pub fn function_part(
     alloc: Global,
     start: Span,

@@ -9,9 +9,13 @@ use hb_raw::Word;
 /// The numbers of a token's text and of its first part, the value of its digits, and its place.
 #[derive(Clone, Copy)]
 pub struct Sign {
+    /// The number of the whole text as a name.
     pub whole: NameId,
+    /// The number of the first part of a name of two parts.
     pub first: NameId,
+    /// The value of the digits, 64 for each above 63.
     pub value: u8,
+    /// The place of the text.
     pub place: Span,
 }
 

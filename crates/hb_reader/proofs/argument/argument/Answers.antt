@@ -1,4 +1,4 @@
-use Rattle.std.proofs.Common.{◌≡◌, ◌∙◌}
+use Rattle.std.proofs.Common.{◌∙◌}
 use Rattle.hb_reader.specs.Signs.{sign}
 use Rattle.hb_reader.specs.Views.{before, stack}
 use Rattle.hb_reader.proofs.MarkLemmas.{unbracketed-is}

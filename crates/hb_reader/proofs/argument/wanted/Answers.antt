@@ -1,4 +1,3 @@
-use Rattle.std.proofs.Common.{◌≡◌, sym}
 use Rattle.hb_reader.specs.Signs.{sign}
 use Rattle.hb_reader.specs.Views.{before, stack}
 use Rattle.hb_reader.proofs.MarkLemmas.{begins-else}

@@ -1,4 +1,3 @@
-use Rattle.std.proofs.Common.{◌≡◌}
 use Rattle.hb_reader.proofs.following.arrow_behind.Goals as goal
 
 pub returns : goal.returns

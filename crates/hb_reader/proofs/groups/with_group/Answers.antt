@@ -1,4 +1,4 @@
-use Rattle.std.proofs.Common.{◌≡◌, ap, ◌∙◌, ◌+◌, option_map}
+use Rattle.std.proofs.Common.{ap, ◌∙◌, ◌+◌, option_map}
 use Rattle.hb_raw.specs.Views.{term, group_of, groups}
 use Rattle.hb_reader.specs.Views.{bound_in}
 use Rattle.hb_reader.proofs.GroupLemmas.{bound_in-more, bound_by_of}

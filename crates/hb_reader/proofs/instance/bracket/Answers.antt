@@ -1,4 +1,4 @@
-use Rattle.std.proofs.Common.{◌≡◌, refl}
+use Rattle.std.proofs.Common.{refl}
 use Rattle.hb_reader.proofs.MeasureLemmas.{bracketed_leaf_else}
 use Rattle.hb_reader.proofs.instance.bracket.Goals as goal
 

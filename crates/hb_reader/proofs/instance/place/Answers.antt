@@ -1,4 +1,4 @@
-use Rattle.std.proofs.Common.{◌≡◌, refl}
+use Rattle.std.proofs.Common.{refl}
 use Rattle.hb_reader.proofs.MeasureLemmas.{place_leaf_else}
 use Rattle.hb_reader.proofs.instance.place.Goals as goal
 

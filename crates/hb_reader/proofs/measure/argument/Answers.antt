@@ -1,4 +1,4 @@
-use Rattle.std.proofs.Common.{◌≡◌, refl, sym}
+use Rattle.std.proofs.Common.{sym}
 use Rattle.hb_reader.specs.Views.{stack}
 use Rattle.hb_reader.proofs.MeasureLemmas.{argument_leaf_else}
 use Rattle.hb_reader.proofs.measure.argument.Goals as goal

@@ -1,6 +1,6 @@
-use Rattle.std.proofs.Common.{◌≡◌, sym, refl}
+use Rattle.std.proofs.Common.{sym}
 use Rattle.hb_grammar.specs.Machine as plain
-use Rattle.hb_reader.specs.Views.{before, stack, binding}
+use Rattle.hb_reader.specs.Views.{before}
 use Rattle.hb_reader.proofs.measure.behind_at.Goals as goal
 
 pub returns-else-is_universe : goal.returns-else-is_universe

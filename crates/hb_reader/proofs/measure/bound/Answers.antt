@@ -1,6 +1,5 @@
-use Rattle.std.proofs.Common.{◌≡◌, sym, refl}
-use Rattle.hb_grammar.specs.Machine as plain
-use Rattle.hb_reader.specs.Views.{before, stack, binding}
+use Rattle.std.proofs.Common.{refl}
+use Rattle.hb_reader.specs.Views.{binding}
 use Rattle.hb_reader.proofs.MeasureLemmas.{binding_leaf_else}
 use Rattle.hb_reader.proofs.measure.bound.Goals as goal
 

@@ -1,4 +1,4 @@
-use Rattle.std.proofs.Common.{◌≡◌, arith}
+use Rattle.std.proofs.Common.{arith}
 use Rattle.hb_reader.proofs.MeasureLemmas.{bound_in_take}
 use Rattle.hb_reader.proofs.measure.bound_count.Goals as goal
 

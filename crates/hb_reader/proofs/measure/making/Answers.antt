@@ -1,6 +1,5 @@
-use Rattle.std.proofs.Common.{◌≡◌, sym, refl}
-use Rattle.hb_grammar.specs.Machine as plain
-use Rattle.hb_reader.specs.Views.{before, stack, binding}
+use Rattle.std.proofs.Common.{sym}
+use Rattle.hb_reader.specs.Views.{before}
 use Rattle.hb_reader.proofs.measure.making.Goals as goal
 
 pub returns : goal.returns

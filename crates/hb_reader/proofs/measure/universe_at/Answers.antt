@@ -1,6 +1,4 @@
-use Rattle.std.proofs.Common.{◌≡◌, sym, refl}
-use Rattle.hb_grammar.specs.Machine as plain
-use Rattle.hb_reader.specs.Views.{before, stack, binding}
+use Rattle.hb_reader.specs.Views.{before, stack}
 use Rattle.hb_reader.proofs.MeasureLemmas.{universe_leaf_else}
 use Rattle.hb_reader.proofs.measure.universe_at.Goals as goal
 

@@ -1,6 +1,5 @@
-use Rattle.std.proofs.Common.{◌≡◌, sym, refl}
-use Rattle.hb_grammar.specs.Machine as plain
-use Rattle.hb_reader.specs.Views.{before, stack, binding}
+use Rattle.std.proofs.Common.{sym}
+use Rattle.hb_reader.specs.Views.{before, stack}
 use Rattle.hb_reader.proofs.MeasureLemmas.{begun_leaf_else}
 use Rattle.hb_reader.proofs.measure.wanted.Goals as goal
 

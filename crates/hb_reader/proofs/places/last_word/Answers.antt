@@ -1,4 +1,3 @@
-use Rattle.std.proofs.Common.{◌≡◌}
 use Rattle.hb_reader.proofs.WordLemmas.{last_word_take}
 use Rattle.hb_reader.proofs.places.last_word.Goals as goal
 

@@ -1,4 +1,3 @@
-use Rattle.std.proofs.Common.{◌≡◌}
 use Rattle.hb_reader.proofs.binder.BinderState.measure.Goals as goal
 
 pub returns-in-First : goal.returns-in-First

@@ -1,4 +1,4 @@
-use Rattle.std.proofs.Common.{◌≡◌, refl}
+use Rattle.std.proofs.Common.{refl}
 use Rattle.hb_reader.proofs.carrier.CarrierRow.behind.Goals as goal
 
 pub returns-in-RecordName : goal.returns-in-RecordName

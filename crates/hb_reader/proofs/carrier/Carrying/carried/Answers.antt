@@ -1,4 +1,4 @@
-use Rattle.std.proofs.Common.{◌≡◌, refl}
+use Rattle.std.proofs.Common.{refl}
 use Rattle.hb_reader.proofs.carrier.Carrying.carried.Goals as goal
 
 pub returns-in-Builders : goal.returns-in-Builders

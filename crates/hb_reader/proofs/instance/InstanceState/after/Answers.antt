@@ -1,4 +1,3 @@
-use Rattle.std.proofs.Common.{◌≡◌}
 use Rattle.hb_reader.specs.Signs.{sign}
 use Rattle.hb_reader.proofs.instance.InstanceState.after.Goals as goal
 

@@ -1,4 +1,4 @@
-use Rattle.std.proofs.Common.{◌≡◌, refl}
+use Rattle.std.proofs.Common.{refl}
 use Rattle.hb_grammar.specs.declared.mark.Mark.TheVariants.{Universe}
 use Rattle.hb_grammar.specs.Machine as plain
 use Rattle.hb_reader.specs.States.{placing}

@@ -1,4 +1,4 @@
-use Rattle.std.proofs.Common.{◌≡◌, refl, arith}
+use Rattle.std.proofs.Common.{refl, arith}
 use Rattle.hb_reader.proofs.MeasureLemmas.{list_leaf}
 use Rattle.hb_reader.proofs.kind.Kind.measure.Goals as goal
 

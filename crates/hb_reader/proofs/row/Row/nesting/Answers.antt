@@ -1,4 +1,3 @@
-use Rattle.std.proofs.Common.{◌≡◌, refl}
 use Rattle.hb_reader.proofs.row.Row.nesting.Goals as goal
 
 pub returns-in-Fork : goal.returns-in-Fork

@@ -1,4 +1,3 @@
-use Rattle.std.proofs.Common.{◌≡◌}
 use Rattle.hb_reader.proofs.AlikeStates.{alike}
 use Rattle.hb_reader.proofs.state.State.needs.Goals as goal
 

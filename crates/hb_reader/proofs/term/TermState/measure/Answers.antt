@@ -1,4 +1,3 @@
-use Rattle.std.proofs.Common.{◌≡◌}
 use Rattle.hb_reader.specs.Views.{part}
 use Rattle.hb_reader.proofs.term.TermState.measure.Goals as goal
 
