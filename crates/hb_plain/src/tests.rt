@@ -10,7 +10,7 @@ fn span(from: u32) -> Span {
     Span {
         file: 0,
         from,
-        to: from + 1,
+        to: from.saturating_add(1),
     }
 }
 
@@ -48,11 +48,10 @@ fn axioms_are_added_or_refused_at_their_places(rt: HostRuntime) -> Result<(), Fa
     let mut names = Names::new(alloc)?;
     let mut theory = Theory::new(alloc)?;
     let limits = Limits::DEFAULT;
-    let mut ids = Vec::new(alloc);
-    for text in ["nat", "zero", "HB_x", "f"] {
-        ids.push(names.number(text).map_err(|_| "room for a name")?)?;
-    }
-    let (nat, zero, kept, f) = (ids[0], ids[1], ids[2], ids[3]);
+    let nat = number(&mut names, "nat")?;
+    let zero = number(&mut names, "zero")?;
+    let kept = number(&mut names, "HB_x")?;
+    let f = number(&mut names, "f")?;
     for (taken, refused) in [
         (axiom(nat, raw(10, RawKind::Level(0))), None),
         (axiom(zero, raw(10, RawKind::Name(nat))), None),
@@ -96,6 +95,13 @@ fn axioms_are_added_or_refused_at_their_places(rt: HostRuntime) -> Result<(), Fa
         }
     }
     Ok(())
+}
+
+fn number(names: &mut Names, text: &str) -> Result<NameId, Fail> {
+    match names.number(text) {
+        Ok(id) => Ok(id),
+        Err(_) => Err("room for a name".into()),
+    }
 }
 
 fn word_of(what: &What) -> &'static str {
