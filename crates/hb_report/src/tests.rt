@@ -60,7 +60,7 @@ fn each_refusal_has_its_line(rt: HostRuntime) -> Result<(), Fail> {
     let long = Scoped::new(long, 0).ok_or("in scope")?;
     let written = refused_line(alloc, &names, &env, "f.v", &at(What::Spent(long)))?;
     assert!(rt; written.as_bytes().starts_with(b"spent f.v 3 7 (Prop Prop"));
-    assert!(rt; written.as_bytes().ends_with(b"Prop Prop...)\n"));
+    assert!(rt; written.as_bytes().ends_with(b"Prop Prop ...)\n"));
     assert_eq!(rt; written.as_bytes().len(), 15 + 1000 + 5);
     Ok(())
 }
