@@ -157,7 +157,7 @@ fn files_are_compiled_in_order(rt: HostRuntime) -> Result<(), Fail> {
     let seen = run_over(alloc, &words, &files, 0, 0, 4096)?;
     assert_eq!(rt;
         seen.report.as_slice(),
-        b"refused 8 b.v 12 15 UnknownName nat\n"
+        "refused 8 b.v 12 15 UnknownName nat\n".as_bytes()
     );
     Ok(())
 }
@@ -258,7 +258,7 @@ fn a_failing_device_ends_the_run(rt: HostRuntime) -> Result<(), Fail> {
     let slow = run_over(alloc, &["compile", "a.v"], &[("a.v", NAT)], 0, 0, 1)?;
     assert_eq!(rt;
         slow.report.as_slice(),
-        b"axiom nat\naxiom zero\naxiom succ\naccepted 3\n"
+        "axiom nat\naxiom zero\naxiom succ\naccepted 3\n".as_bytes()
     );
     Ok(())
 }
