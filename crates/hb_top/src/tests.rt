@@ -6,6 +6,7 @@ use std::test::*;
 const NAT: &str = "Axiom nat : Type.\nAxiom zero : nat.\nAxiom succ : nat -> nat.\n";
 
 /// What a run leaves: its status, its report, and the number of entries.
+#[derive(Drop)]
 struct Seen {
     status: Status,
     report: Vec<u8>,
