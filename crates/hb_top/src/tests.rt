@@ -94,7 +94,7 @@ fn a_run_prints_its_report(rt: HostRuntime) -> Result<(), Fail> {
         (
             "Axiom a : Type@{63}.",
             Status::Refused,
-            "refused 18 a.v 10 18 LevelTooHigh\n",
+            "refused 18 a.v 10 19 LevelTooHigh\n",
         ),
         (
             "Axiom f : Type -> Prop -> Type. Axiom x : f.",
