@@ -30,7 +30,7 @@ pub fn convertible(
     if are_same(a, b) {
         return Ok(Verdict::Yes);
     }
-    let found = looks_convertible(alloc, env, a, b)?;
+    let found = looks_convertible(alloc, env, a, b, limits)?;
     if found {
         return Ok(Verdict::Yes);
     }
@@ -59,7 +59,7 @@ pub fn below(
     if are_same(a, b) {
         return Ok(Verdict::Yes);
     }
-    let found = looks_convertible(alloc, env, a, b)?;
+    let found = looks_convertible(alloc, env, a, b, limits)?;
     if found {
         return Ok(Verdict::Yes);
     }

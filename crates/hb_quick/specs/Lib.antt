@@ -1,1 +1,2 @@
 -- what the crate's own functions promise each other
+pub mod Looks

@@ -1,7 +1,10 @@
-//! A cheap look that finds most terms convertible that are.
+//! A cheap look that finds most terms convertible that are, with no normal form.
 #![tactic(auto)]
 
+mod allowance;
 mod look;
+mod maker;
+mod unfold;
 
 pub use look::looks_convertible;
 

@@ -1,4 +1,5 @@
 use crate::looks_convertible;
+use hb_base::Limits;
 use hb_env::Env;
 use hb_term::{Scoped, Sort, Term};
 use std::alloc::{AllocError, Global};
@@ -16,7 +17,7 @@ fn a_redex_looks_like_its_reduct(rt: HostRuntime) -> Result<(), Fail> {
     let env = Env::new(alloc)?;
     let first = redex(alloc)?;
     let second = Scoped::new(Term::Sort(Sort::Prop), 0).ok_or("scoped")?;
-    let found = looks_convertible(alloc, &env, &first, &second)?;
+    let found = looks_convertible(alloc, &env, &first, &second, &Limits::DEFAULT)?;
     assert!(rt; found);
     Ok(())
 }

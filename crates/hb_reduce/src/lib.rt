@@ -14,10 +14,13 @@ mod rule;
 mod settle;
 mod side;
 mod spine;
+mod step;
 mod walk;
 
 pub use error::ReduceRefused;
 pub use reduce::{nf, whnf};
+pub use spine::{is_built, sizes};
+pub use step::head_step;
 
 #[cfg(test)]
 mod tests;

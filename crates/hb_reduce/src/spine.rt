@@ -10,7 +10,7 @@ use hb_env::{Decl, Env};
 use hb_term::{Part, RecId, Term};
 
 /// How many parameters and fields the record has; `None` if it is none.
-pub(crate) fn sizes(env: &Env, rec: RecId) -> Option<(usize, usize)>
+pub fn sizes(env: &Env, rec: RecId) -> Option<(usize, usize)>
     ensures sizes { SizesAre (record_in (slice_get env.now rec.0)) result }
     ensures fits { IfSome result (λ p. p.0 + p.1 < 2 ^ 64) }
 {
@@ -21,7 +21,7 @@ pub(crate) fn sizes(env: &Env, rec: RecId) -> Option<(usize, usize)>
 }
 
 /// Whether it is the record's maker with `count` arguments.
-pub(crate) fn is_built(part: &Part, rec: RecId, count: usize) -> bool
+pub fn is_built(part: &Part, rec: RecId, count: usize) -> bool
     ensures { result ≡ is_built rec.0 count (kind part.now) }
 {
     let mut now = part;
