@@ -1,48 +1,13 @@
 use crate::{term_front, term_text};
-use hb_base::{NameId, Names};
-use hb_env::{Decl, Env};
+use hb_base::Names;
+use hb_env::Env;
 use hb_term::{ConstId, RecId, Scoped, Sort, Term};
 use std::alloc::{AllocError, Global};
 use std::test::*;
 
-fn number(names: &mut Names, text: &str) -> Result<NameId, Fail> {
-    match names.number(text) {
-        Ok(id) => Ok(id),
-        Err(_) => Err("room for a name".into()),
-    }
-}
-
-fn declare(env: &mut Env, decl: Decl) -> Result<(), Fail> {
-    match env.push(decl) {
-        Ok(_) => Ok(()),
-        Err(_) => Err("a new declaration".into()),
-    }
-}
-
-/// `Record Pair : Type@{0} := mk { first : nat; second : nat }`.
-fn pair(alloc: Global, names: &mut Names) -> Result<Decl, Fail> {
-    let mut fields = Vec::new(alloc);
-    fields.push((number(names, "first")?, constant(0, false)))?;
-    fields.push((number(names, "second")?, constant(0, false)))?;
-    Ok(Decl::Record {
-        name: number(names, "Pair")?,
-        maker: number(names, "mk")?,
-        params: Vec::new(alloc),
-        level: 0,
-        fields,
-    })
-}
-
-/// `nat : Type@{0}` and the record.
+/// No names, and nothing declared.
 fn declared(alloc: Global) -> Result<(Names, Env), Fail> {
-    let mut names = Names::new(alloc)?;
-    let mut env = Env::new(alloc)?;
-    let name = number(&mut names, "nat")?;
-    let ty = Term::Sort(Sort::Level(0));
-    declare(&mut env, Decl::Axiom { name, ty })?;
-    let record = pair(alloc, &mut names)?;
-    declare(&mut env, record)?;
-    Ok((names, env))
+    Ok((Names::new(alloc)?, Env::new(alloc)?))
 }
 
 fn constant(decl: u32, maker: bool) -> Term {
@@ -62,14 +27,14 @@ fn identity(alloc: Global) -> Result<Term, AllocError> {
     Term::pi(alloc, Term::Sort(Sort::Level(3)), arrow)
 }
 
-/// `mk _1 (_0 ?4)`.
+/// `c _1 (_0 ?4)` of the maker of record 1.
 fn made(alloc: Global) -> Result<Term, AllocError> {
     let first = Term::app(alloc, constant(1, true), Term::Rel(0))?;
     let second = Term::app(alloc, Term::Rel(1), Term::Hole(4))?;
     Term::app(alloc, first, second)
 }
 
-/// `Pair -> Pair -> Pair`.
+/// `c -> c -> c` of the constant 1.
 fn arrows(alloc: Global) -> Result<Term, AllocError> {
     let right = Term::pi(alloc, constant(1, false), constant(1, false))?;
     Term::pi(alloc, constant(1, false), right)
@@ -88,12 +53,12 @@ fn products_and_functions_have_their_texts(rt: HostRuntime) -> Result<(), Fail> 
     let text = text_of(alloc, identity(alloc)?, 0)?;
     assert_eq!(rt; text.as_str(), "forall _0 : Type@{3}, _0 -> _0");
     let text = text_of(alloc, arrows(alloc)?, 0)?;
-    assert_eq!(rt; text.as_str(), "Pair -> Pair -> Pair");
+    assert_eq!(rt; text.as_str(), "!1 -> !1 -> !1");
     let left = Term::pi(alloc, arrows(alloc)?, constant(1, false))?;
     let text = text_of(alloc, left, 0)?;
-    assert_eq!(rt; text.as_str(), "(Pair -> Pair -> Pair) -> Pair");
+    assert_eq!(rt; text.as_str(), "(!1 -> !1 -> !1) -> !1");
     let text = text_of(alloc, applied(alloc)?, 5)?;
-    assert_eq!(rt; text.as_str(), "(fun _5 : nat -> Prop => _5) !7");
+    assert_eq!(rt; text.as_str(), "(fun _5 : !0 -> Prop => _5) !7");
     Ok(())
 }
 
@@ -101,10 +66,10 @@ fn products_and_functions_have_their_texts(rt: HostRuntime) -> Result<(), Fail> 
 fn makers_and_projections_have_their_texts(rt: HostRuntime) -> Result<(), Fail> {
     let alloc = rt.alloc();
     let text = text_of(alloc, made(alloc)?, 2)?;
-    assert_eq!(rt; text.as_str(), "mk _1 (_0 ?4)");
+    assert_eq!(rt; text.as_str(), "!1 _1 (_0 ?4)");
     let second = Term::proj(alloc, RecId(1), 1, made(alloc)?)?;
     let text = text_of(alloc, second, 2)?;
-    assert_eq!(rt; text.as_str(), "(mk _1 (_0 ?4)).(second)");
+    assert_eq!(rt; text.as_str(), "(!1 _1 (_0 ?4)).(!1)");
     let other = Term::proj(alloc, RecId(0), 9, Term::Rel(0))?;
     let text = text_of(alloc, other, 1)?;
     assert_eq!(rt; text.as_str(), "_0.(!0)");
@@ -143,6 +108,6 @@ fn a_front_takes_no_more_than_its_bytes(rt: HostRuntime) -> Result<(), Fail> {
 fn a_chain_of_projections_takes_no_stack(rt: HostRuntime) -> Result<(), Fail> {
     let alloc = rt.alloc();
     let text = text_of(alloc, chain(alloc)?, 0)?;
-    assert_eq!(rt; text.as_bytes().len(), 3 + 250_000 * 8);
+    assert_eq!(rt; text.as_bytes().len(), 2 + 250_000 * 5);
     Ok(())
 }
