@@ -42,10 +42,10 @@ pub(crate) fn accepted(alloc: Global, lines: &[Line]) -> Result<Theory, KernelRe
 
 /// Adds the lines, which all have to be accepted.
 fn add_all(alloc: Global, theory: &mut Theory, lines: &[Line]) -> Result<(), KernelRefused> {
-    let mut place = 0;
+    let mut place: usize = 0;
     for line in lines {
         theory.add(declaration(alloc, name_at(place), *line)?, &Limits::DEFAULT)?;
-        place += 1;
+        place = place.saturating_add(1);
     }
     Ok(())
 }

@@ -67,8 +67,8 @@ fn record(
     }
     let mut fields = Vec::new(alloc);
     let mut named = name.saturating_add(2);
-    while let Some(ty) = terms.pop() {
-        fields.push((NameId(named), ty))?;
+    for _i in 0..terms.len() {
+        fields.push((NameId(named), next(&mut terms)))?;
         named = named.saturating_add(1);
     }
     Ok(Decl::Record {

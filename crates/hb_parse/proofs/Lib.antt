@@ -8,3 +8,4 @@ pub mod LoadSteps
 pub mod NamesLemmas
 pub mod Needed
 pub mod Exact
+pub mod Numbering

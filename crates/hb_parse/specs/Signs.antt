@@ -2,6 +2,7 @@
 use Rattle.std.specs.Prelude.{◌≡◌, ℕ, List, map, Some, slice_get}
 use Rattle.hb_base.specs.declared.name_id.NameId.{NameId}
 use Rattle.hb_base.specs.declared.span.Span.{Span}
+use Rattle.hb_base.specs.Names.{NumbersAreUnique}
 use Rattle.hb_lex.specs.declared.token.Token.{Token}
 use Rattle.hb_lex.specs.declared.token.TokenKind.{TokenKind}
 use Rattle.hb_lex.specs.declared.token.TokenKind.TheVariants as kind
@@ -37,3 +38,7 @@ seen_of ν bytes t = seen (mark_of t.kind (piece bytes t.span)) (sign_of ν t.ki
 
 abbrev pub file_of : Numbering → List ℕ → List Token → List Seen
 file_of ν bytes ts = map (seen_of ν bytes) ts
+
+-- The law: names of which none stands twice have a numbering that agrees with them.
+abbrev pub NumberingExists : Type 0
+NumberingExists = (names : List (List ℕ)) → NumbersAreUnique names → (ν : Numbering) × Agrees ν names

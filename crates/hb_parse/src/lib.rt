@@ -3,6 +3,7 @@
 
 mod error;
 mod file;
+mod laws;
 mod level;
 mod mark;
 mod number;
@@ -11,3 +12,4 @@ mod turn;
 
 pub use error::ParseRefused;
 pub use file::parse;
+pub use laws::numbering_exists;

@@ -6,6 +6,7 @@ use std::test::*;
 const NAT: &str = "Axiom nat : Type.\nAxiom zero : nat.\nAxiom succ : nat -> nat.\n";
 
 /// What a run leaves: its status, its report, and the number of entries.
+#[derive(Drop)]
 struct Seen {
     status: Status,
     report: Vec<u8>,
@@ -93,7 +94,7 @@ fn a_run_prints_its_report(rt: HostRuntime) -> Result<(), Fail> {
         (
             "Axiom a : Type@{63}.",
             Status::Refused,
-            "refused 18 a.v 10 18 LevelTooHigh\n",
+            "refused 18 a.v 10 19 LevelTooHigh\n",
         ),
         (
             "Axiom f : Type -> Prop -> Type. Axiom x : f.",
@@ -157,7 +158,7 @@ fn files_are_compiled_in_order(rt: HostRuntime) -> Result<(), Fail> {
     let seen = run_over(alloc, &words, &files, 0, 0, 4096)?;
     assert_eq!(rt;
         seen.report.as_slice(),
-        b"refused 8 b.v 12 15 UnknownName nat\n"
+        "refused 8 b.v 12 15 UnknownName nat\n".as_bytes()
     );
     Ok(())
 }
@@ -258,7 +259,7 @@ fn a_failing_device_ends_the_run(rt: HostRuntime) -> Result<(), Fail> {
     let slow = run_over(alloc, &["compile", "a.v"], &[("a.v", NAT)], 0, 0, 1)?;
     assert_eq!(rt;
         slow.report.as_slice(),
-        b"axiom nat\naxiom zero\naxiom succ\naccepted 3\n"
+        "axiom nat\naxiom zero\naxiom succ\naccepted 3\n".as_bytes()
     );
     Ok(())
 }
