@@ -8,6 +8,3 @@ mod term;
 
 pub use piece::Piece;
 pub use term::{term_front, term_text};
-
-#[cfg(test)]
-mod tests;
