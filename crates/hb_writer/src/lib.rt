@@ -8,3 +8,6 @@ mod term;
 
 pub use piece::Piece;
 pub use term::{term_front, term_text};
+
+#[cfg(test)]
+mod tests;
