@@ -1,18 +1,16 @@
 -- What is looked up after one more giving, and after one less.
-use Rattle.std.proofs.Common.{◌≡◌, ℕ, zero, suc, ◌+◌, ◌<◌, ◌≤◌, Bool, true, false, true≢false, is_none, IsSome, cond, not, ◌&&◌, ◌||◌, List, [], ◌∷◌, ◌++◌, length, take, get_or, Option, Some, None, refl, sym, ap, ◌∙◌, subst, arith, nat_eq, nat_lt}
+use Rattle.std.proofs.Common.{◌≡◌, ℕ, suc, ◌+◌, ◌<◌, ◌≤◌, Bool, true, false, true≢false, is_none, IsSome, cond, not, ◌&&◌, List, [], ◌∷◌, ◌++◌, length, take, get_or, Option, Some, None, refl, sym, ap, ◌∙◌, arith, nat_eq, nat_lt}
 use Rattle.std.specs.Prelude.{position}
 use Rattle.std.specs.List.{position_or_len}
-use Rattle.std.specs.Map.{lookup}
 use Rattle.std.specs.Option.{option_or, option_map, unwrap_or}
 use Rattle.std.proofs.lemmas.Bool.Decides.{nat_tests}
-use Rattle.std.proofs.lemmas.List.{length_push, length-take, take-take, take-append-le}
+use Rattle.std.proofs.lemmas.List.{length_push, take-append-le}
 use Rattle.std.proofs.lemmas.List.Folds.{position_or_len_push}
 use Rattle.std.proofs.lemmas.List.Sums.{prefix_len-le-length}
 use Rattle.std.proofs.lemmas.List.Quantifiers.{position-Some}
 use Rattle.std.proofs.Math.Seq.{take-length}
-use Rattle.hb_sets.specs.Set.{Set, AllBelow, contains, union}
+use Rattle.hb_sets.specs.Set.{Set, contains, union}
 use Rattle.hb_order.specs.declared.ids.StructId.{StructId}
-use Rattle.hb_order.specs.declared.ids.MixinId.{MixinId}
 use Rattle.hb_order.specs.Givings.{Giving, given, condition}
 use Rattle.hb_order.proofs.GivingLemmas.{given-push}
 use Rattle.hb_tree.specs.declared.leaves.ConstId.{ConstId}

@@ -1,4 +1,4 @@
-use Rattle.std.proofs.Common.{◌≡◌, sym, ap, ◌∙◌, List, Some}
+use Rattle.std.proofs.Common.{sym, ap, ◌∙◌, List, Some}
 use Rattle.hb_givings.specs.Givings.{Given, givings_at, binder_count}
 use Rattle.hb_givings.proofs.LookupLemmas.{summary-count, summary-none}
 use Rattle.hb_givings.proofs.givings.Givings.binders.Goals as goal

@@ -1,4 +1,4 @@
-use Rattle.std.proofs.Common.{◌≡◌, ap, ◌∙◌, List}
+use Rattle.std.proofs.Common.{ap, ◌∙◌, List}
 use Rattle.hb_order.specs.Givings.{condition}
 use Rattle.hb_givings.specs.Givings.{Given, givings_at}
 use Rattle.hb_givings.proofs.LookupLemmas.{condition-some, condition-none, source-within}

@@ -1,5 +1,4 @@
-use Rattle.std.proofs.Common.{◌≡◌, sym, ap, ◌∙◌, subst, List}
-use Rattle.hb_sets.specs.Set.{empty}
+use Rattle.std.proofs.Common.{sym, ap, ◌∙◌, List}
 use Rattle.hb_order.specs.Givings.{given}
 use Rattle.hb_givings.specs.Givings.{Given, givings_at}
 use Rattle.hb_givings.proofs.LookupLemmas.{summary-given, summary-none}

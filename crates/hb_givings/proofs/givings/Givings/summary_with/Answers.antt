@@ -1,4 +1,4 @@
-use Rattle.std.proofs.Common.{◌∙◌, ap, sym, Some, length}
+use Rattle.std.proofs.Common.{◌∙◌, ap, Some, length}
 use Rattle.std.specs.Option.{unwrap_or}
 use Rattle.hb_sets.specs.Set.{union}
 use Rattle.hb_givings.specs.Givings.{givings_at}
