@@ -1,0 +1,3 @@
+pub mod CarrierLemmas
+pub mod LookupLemmas
+pub mod TallyLemmas
