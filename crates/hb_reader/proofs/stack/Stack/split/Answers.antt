@@ -9,7 +9,7 @@ invariant_of-stack c =
     let fs = c.pop.new.self.items in
     let f = c.in-Some.field-0 in
     let e = rw c.in-Some.ensures.items at c.args.self.kept in
-    record { counted = last-kept fs k f e; kept = others-kept fs k f e; }
+    record { counted = last-kept fs k f e; kept = others-kept fs k f e }
 
 pub returns-in-Some-clause-same : goal.returns-in-Some-clause-same
 returns-in-Some-clause-same c =
