@@ -18,7 +18,7 @@ use Rattle.hb_reader.specs.declared.binder.BinderState.{BinderState}
 use Rattle.hb_reader.specs.declared.binder.BinderState.TheVariants as binders
 use Rattle.hb_reader.specs.declared.listing.ListState.{ListState}
 use Rattle.hb_reader.specs.declared.listing.ListState.TheVariants as lists
-use Rattle.hb_reader.specs.declared.stack.InstanceOf.{InstanceOf}
+use Rattle.hb_reader.specs.declared.frame.InstanceOf.{InstanceOf}
 use Rattle.hb_reader.specs.declared.instance.InstanceState.{InstanceState}
 use Rattle.hb_reader.specs.declared.instance.InstanceState.TheVariants as instances
 use Rattle.hb_reader.specs.declared.kind.Kind.{Kind}

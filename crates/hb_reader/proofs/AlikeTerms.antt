@@ -12,7 +12,8 @@ use Rattle.hb_grammar.specs.Grammar.{Bounds}
 use Rattle.hb_grammar.specs.Machine as plain
 use Rattle.hb_reader.specs.declared.term.TermState.{TermState}
 use Rattle.hb_reader.specs.declared.term.TermState.TheVariants as terms
-use Rattle.hb_reader.specs.Views.{part, before, stack}
+use Rattle.hb_reader.specs.Stacks.{stack}
+use Rattle.hb_reader.specs.Views.{part, before}
 use Rattle.hb_reader.specs.States.{term_state}
 use Rattle.hb_reader.proofs.AlikeRows.{sign_of, Blind, ByWhole}
 

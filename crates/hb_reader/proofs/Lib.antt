@@ -1,4 +1,5 @@
 pub mod GroupLemmas
+pub mod FrameLemmas
 pub mod MarkLemmas
 pub mod WordLemmas
 pub mod StateLemmas

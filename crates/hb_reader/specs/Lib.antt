@@ -1,6 +1,8 @@
 -- What the reader's values stand for.
 pub mod Views
 pub mod Signs
+pub mod Frames
+pub mod Stacks
 -- Rows of known tokens.
 pub mod Rows
 pub mod States

@@ -24,7 +24,8 @@ use Rattle.hb_reader.specs.declared.instance.Placing.{Placing}
 use Rattle.hb_reader.specs.declared.instance.Placing.TheVariants as placings
 use Rattle.hb_reader.specs.declared.instance.InstanceState.{InstanceState}
 use Rattle.hb_reader.specs.declared.instance.InstanceState.TheVariants as instances
-use Rattle.hb_reader.specs.Views.{part, before, record_of, instance_of, bound_in, stack, binding}
+use Rattle.hb_reader.specs.Stacks.{stack, binding}
+use Rattle.hb_reader.specs.Views.{part, before, record_of, instance_of, bound_in}
 use Rattle.hb_reader.specs.Rows.{Take, take, taking, either, row}
 
 abbrev pub term_state : TermState → plain.State

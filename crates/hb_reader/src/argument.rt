@@ -5,22 +5,23 @@ ghost use Rattle.hb_grammar.specs.Machine as plain;
 ghost use Rattle.hb_reader.specs.Arguments.{unbracketed};
 ghost use Rattle.hb_reader.specs.Signs.{sign};
 ghost use Rattle.hb_reader.specs.States.{kind};
-ghost use Rattle.hb_reader.specs.Views.{before, stack};
+ghost use Rattle.hb_reader.specs.Stacks.{stack};
+ghost use Rattle.hb_reader.specs.Views.{before};
 
 use super::binder::BinderState;
+use super::frame::Frame;
 use super::kind::Kind;
 use super::part::{bare_part, hole_part, name_part, prop_part, type_part};
 use super::sign::Sign;
 use super::spine::Before;
 use super::stack::{Binding, Stack};
-use super::term::{TermState, have, want};
+use super::term::{TermState, have, want_in};
 use hb_base::Span;
 use hb_grammar::Mark;
-use std::alloc::{AllocError, Global};
+use std::alloc::AllocError;
 
 /// The first token of an argument.
 pub fn argument(
-    alloc: Global,
     b: Before,
     around: Stack,
     mark: Mark,
@@ -29,17 +30,16 @@ pub fn argument(
     ensures { IfOk result (λ o. option_map kind o ≡ plain.argument (before b) (stack around) mark (sign token)) }
 {
     match mark {
-        Mark::Open => opened(alloc, b, around, token.place),
+        Mark::Open => opened(b, around, token.place),
         _ => Ok(atom(b, around, mark, token)),
     }
 }
 
 /// A term in parentheses begins.
-fn opened(alloc: Global, b: Before, around: Stack, place: Span) -> Result<Option<Kind>, AllocError>
+fn opened(b: Before, around: Stack, place: Span) -> Result<Option<Kind>, AllocError>
     ensures { IfOk result (λ o. option_map kind o ≡ Some (plain.want plain.first (plain.inside (before b) place (stack around)))) }
 {
-    let around = Box::new(alloc, around)?;
-    Ok(Some(want(Stack::Inside(b, place, around))))
+    want_in(around, Frame::Inside(b, place))
 }
 
 /// The first token of an argument without parentheses.
@@ -70,54 +70,36 @@ pub fn bare_named(b: Before, at: Span, around: Stack, mark: Mark, token: Sign) -
 }
 
 /// The first token of a term or an argument.
-pub fn wanted(
-    alloc: Global,
-    b: Before,
-    around: Stack,
-    mark: Mark,
-    token: Sign,
-) -> Result<Option<Kind>, AllocError>
+pub fn wanted(b: Before, around: Stack, mark: Mark, token: Sign) -> Result<Option<Kind>, AllocError>
     ensures { IfOk result (λ o. option_map kind o ≡ plain.term_begins (before b) (stack around) mark (sign token)) }
 {
     match mark {
-        Mark::Forall => product_begins(alloc, b, around, token),
-        Mark::Fun => function_begins(alloc, b, around, token),
-        _ => argument(alloc, b, around, mark, token),
+        Mark::Forall => Ok(product_begins(b, around, token)),
+        Mark::Fun => Ok(function_begins(b, around, token)),
+        _ => argument(b, around, mark, token),
     }
 }
 
 /// At `forall`.
-fn product_begins(
-    alloc: Global,
-    b: Before,
-    around: Stack,
-    token: Sign,
-) -> Result<Option<Kind>, AllocError>
-    ensures { IfOk result (λ o. option_map kind o ≡ plain.term_begins (before b) (stack around) Forall (sign token)) }
+fn product_begins(b: Before, around: Stack, token: Sign) -> Option<Kind>
+    ensures { option_map kind result ≡ plain.term_begins (before b) (stack around) Forall (sign token) }
 {
     if b.is_first() {
-        let around = Box::new(alloc, around)?;
         let of = Binding::Product(token.place, around);
-        Ok(Some(Kind::Binder(BinderState::First(of))))
+        Some(Kind::Binder(BinderState::First(of)))
     } else {
-        Ok(None)
+        None
     }
 }
 
 /// At `fun`.
-fn function_begins(
-    alloc: Global,
-    b: Before,
-    around: Stack,
-    token: Sign,
-) -> Result<Option<Kind>, AllocError>
-    ensures { IfOk result (λ o. option_map kind o ≡ plain.term_begins (before b) (stack around) Fun (sign token)) }
+fn function_begins(b: Before, around: Stack, token: Sign) -> Option<Kind>
+    ensures { option_map kind result ≡ plain.term_begins (before b) (stack around) Fun (sign token) }
 {
     if b.is_first() {
-        let around = Box::new(alloc, around)?;
         let of = Binding::Function(token.place, around);
-        Ok(Some(Kind::Binder(BinderState::First(of))))
+        Some(Kind::Binder(BinderState::First(of)))
     } else {
-        Ok(None)
+        None
     }
 }

@@ -8,14 +8,16 @@ ghost use Rattle.hb_grammar.specs.Machine as plain;
 ghost use Rattle.hb_reader.specs.Measures.{IsMeasure};
 ghost use Rattle.hb_reader.specs.Signs.{sign};
 ghost use Rattle.hb_reader.specs.States.{kind, binder_state};
-ghost use Rattle.hb_reader.specs.Views.{bound_in, binding};
+ghost use Rattle.hb_reader.specs.Stacks.{binding};
+ghost use Rattle.hb_reader.specs.Views.{bound_in};
 
+use super::frame::{Base, Bounds, Frame, Opener};
 use super::groups::{bare_groups, with_name};
 use super::kind::Kind;
 use super::measure::{Measure, bound, bracketed};
 use super::sign::Sign;
-use super::stack::{Binding, Bounds, Stack};
-use super::term::want;
+use super::stack::Binding;
+use super::term::{want_in, want_on};
 use hb_base::{NameId, Span};
 use hb_grammar::Mark;
 use hb_raw::Binder;
@@ -81,22 +83,27 @@ fn more_names(
 }
 
 /// What ends a list of binders.
-fn bound_to(b: Binding, gs: Vec<Binder>, mark: Mark) -> Option<Kind>
-    ensures { option_map kind result ≡ plain.bound_to (binding b) (groups gs.items) (bound_in (groups gs.items)) mark }
+fn bound_to(
+    alloc: Global,
+    b: Binding,
+    gs: Vec<Binder>,
+    mark: Mark,
+) -> Result<Option<Kind>, AllocError>
+    ensures { IfOk result (λ o. option_map kind o ≡ plain.bound_to (binding b) (groups gs.items) (bound_in (groups gs.items)) mark) }
 {
     match b {
         Binding::Product(x, k) => match mark {
-            Mark::Comma => Some(want(Stack::Body(Binding::Product(x, k), gs))),
-            _ => None,
+            Mark::Comma => want_in(k, Frame::Body(Opener::Forall(x), gs)),
+            _ => Ok(None),
         },
         Binding::Function(x, k) => match mark {
-            Mark::Gives => Some(want(Stack::Body(Binding::Function(x, k), gs))),
-            _ => None,
+            Mark::Gives => want_in(k, Frame::Body(Opener::Fun(x), gs)),
+            _ => Ok(None),
         },
         Binding::Definition(x, n) => match mark {
-            Mark::Colon => Some(want(Stack::DefinitionType(x, n, gs))),
-            Mark::Becomes => Some(want(Stack::DefinitionBody(x, n, gs, None))),
-            _ => None,
+            Mark::Colon => Ok(Some(want_on(alloc, Base::DefinitionType(x, n, gs)))),
+            Mark::Becomes => Ok(Some(want_on(alloc, Base::DefinitionBody(x, n, gs, None)))),
+            _ => Ok(None),
         },
     }
 }
@@ -106,7 +113,7 @@ fn bares_to(alloc: Global, b: Binding, xs: Bounds, mark: Mark) -> Result<Option<
     ensures { IfOk result (λ o. option_map kind o ≡ plain.bound_to (binding b) (plain.bare_groups xs.items) (length xs.items) mark) }
 {
     let gs = bare_groups(alloc, &xs)?;
-    Ok(bound_to(b, gs, mark))
+    bound_to(alloc, b, gs, mark)
 }
 
 /// A group in parentheses behind bare names.
@@ -127,8 +134,8 @@ fn bares_typed(
     ensures { IfOk result (λ o. option_map kind o ≡ plain.after_bares (binding b) xs.items Colon (sign token)) }
 {
     match b {
-        Binding::Product(x, k) => Ok(Some(want(Stack::Lone(Binding::Product(x, k), xs)))),
-        Binding::Function(x, k) => Ok(Some(want(Stack::Lone(Binding::Function(x, k), xs)))),
+        Binding::Product(x, k) => want_in(k, Frame::Lone(Opener::Forall(x), xs)),
+        Binding::Function(x, k) => want_in(k, Frame::Lone(Opener::Fun(x), xs)),
         Binding::Definition(x, n) => bares_to(alloc, Binding::Definition(x, n), xs, Mark::Colon),
     }
 }
@@ -186,7 +193,7 @@ fn after_groups(
         Mark::Ident => more_groups(alloc, b, gs, (Some(token.whole), at)),
         Mark::Hole => more_groups(alloc, b, gs, (None, at)),
         Mark::Open => Ok(Some(Kind::Binder(BinderState::Opened(b, gs)))),
-        _ => Ok(bound_to(b, gs, mark)),
+        _ => bound_to(alloc, b, gs, mark),
     }
 }
 
@@ -208,8 +215,27 @@ fn after_open(
     }
 }
 
+/// The type of a group in its brackets.
+fn group_typed(
+    alloc: Global,
+    b: Binding,
+    gs: Vec<Binder>,
+    xs: Bounds,
+) -> Result<Option<Kind>, AllocError>
+    ensures { IfOk result (λ o. option_map kind o ≡ Some (plain.want plain.first (plain.group_type (binding b) (groups gs.items) (bound_in (groups gs.items)) xs.items))) }
+{
+    match b {
+        Binding::Product(x, k) => want_in(k, Frame::GroupType(Opener::Forall(x), gs, xs)),
+        Binding::Function(x, k) => want_in(k, Frame::GroupType(Opener::Fun(x), gs, xs)),
+        Binding::Definition(x, n) => {
+            Ok(Some(want_on(alloc, Base::DefinitionGroup(x, n, gs, xs))))
+        }
+    }
+}
+
 /// Behind the names of a group.
 fn after_names(
+    alloc: Global,
     b: Binding,
     gs: Vec<Binder>,
     xs: Bounds,
@@ -222,7 +248,7 @@ fn after_names(
     match mark {
         Mark::Ident => more_names(b, gs, xs, (Some(token.whole), at)),
         Mark::Hole => more_names(b, gs, xs, (None, at)),
-        Mark::Colon => Ok(Some(want(Stack::GroupType(b, gs, xs)))),
+        Mark::Colon => group_typed(alloc, b, gs, xs),
         _ => Ok(None),
     }
 }
@@ -237,7 +263,7 @@ impl BinderState {
             BinderState::Bares(b, xs) => after_bares(alloc, b, xs, mark, token),
             BinderState::Groups(b, gs) => after_groups(alloc, b, gs, mark, token),
             BinderState::Opened(b, gs) => after_open(alloc, b, gs, mark, token),
-            BinderState::Names(b, gs, xs) => after_names(b, gs, xs, mark, token),
+            BinderState::Names(b, gs, xs) => after_names(alloc, b, gs, xs, mark, token),
         }
     }
 

@@ -5,15 +5,17 @@ ghost use Rattle.hb_grammar.specs.Machine as plain;
 ghost use Rattle.hb_reader.specs.Arguments.{begins_argument, applied, ending};
 ghost use Rattle.hb_reader.specs.Signs.{sign};
 ghost use Rattle.hb_reader.specs.States.{kind};
-ghost use Rattle.hb_reader.specs.Views.{part, before, stack};
+ghost use Rattle.hb_reader.specs.Stacks.{stack};
+ghost use Rattle.hb_reader.specs.Views.{part, before};
 
 use super::argument::argument;
+use super::frame::Frame;
 use super::kind::Kind;
 use super::part::Part;
 use super::sign::Sign;
 use super::spine::Before;
 use super::stack::Stack;
-use super::term::{TermState, want};
+use super::term::{TermState, want_in};
 use hb_grammar::Mark;
 use std::alloc::{AllocError, Global};
 
@@ -43,7 +45,7 @@ fn applied(
         return Ok(None);
     }
     let next = b.next(alloc, a)?;
-    argument(alloc, next, around, mark, token)
+    argument(next, around, mark, token)
 }
 
 /// The term that ends with the argument.
@@ -81,11 +83,10 @@ fn arrowed(alloc: Global, b: Before, a: Part, around: Stack) -> Result<Option<Ki
 }
 
 /// The right side of an arrow.
-fn right(alloc: Global, left: Part, around: Stack) -> Result<Option<Kind>, AllocError>
+fn right(left: Part, around: Stack) -> Result<Option<Kind>, AllocError>
     ensures { IfOk result (λ o. option_map kind o ≡ Some (plain.want plain.first (plain.right (part left) (stack around)))) }
 {
-    let around = Box::new(alloc, around)?;
-    Ok(Some(want(Stack::Right(left, around))))
+    want_in(around, Frame::Right(left))
 }
 
 /// Behind `a ->`.
@@ -98,7 +99,7 @@ fn arrow_behind(
     ensures { IfOk result (λ o. option_map kind o ≡ Some (plain.want plain.first (plain.right (grammar.spine_part (plain.filled (before b) (part a))) (stack around)))) }
 {
     let left = term_of(alloc, b, a)?;
-    right(alloc, left, around)
+    right(left, around)
 }
 
 /// The token behind an argument that isn't `.(`, `->` or an `@` behind `Type`.

@@ -8,6 +8,7 @@ ghost use Rattle.hb_reader.specs.States.{kind};
 
 use super::builders::BuildersRow;
 use super::carrier::{CarrierRow, Carrying};
+use super::frame::{InstanceOf, RecordOf};
 use super::instance::InstanceState;
 use super::kind::{Kind, finish};
 use super::listing::{ListState, Listing};
@@ -15,7 +16,6 @@ use super::marks::same;
 use super::queries::QueryRow;
 use super::row::Row;
 use super::sign::Sign;
-use super::stack::{InstanceOf, RecordOf};
 use hb_base::Span;
 use hb_grammar::Mark;
 use hb_raw::{CommandKind, Word};

@@ -5,7 +5,7 @@ ghost use Rattle.hb_raw.specs.Views.{term, group_of, groups};
 ghost use Rattle.hb_grammar.specs.Machine as plain;
 ghost use Rattle.hb_reader.specs.Views.{bound_in};
 
-use super::stack::Bounds;
+use super::frame::Bounds;
 use hb_base::{NameId, Span};
 use hb_raw::{Binder, Raw};
 use std::alloc::{AllocError, Global};

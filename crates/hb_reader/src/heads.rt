@@ -6,13 +6,13 @@ ghost use Rattle.hb_reader.specs.Signs.{sign};
 ghost use Rattle.hb_reader.specs.States.{kind};
 
 use super::binder::BinderState;
+use super::frame::Base;
 use super::kind::Kind;
 use super::marks::same;
 use super::row::Row;
 use super::sign::Sign;
-use super::spine::Before;
-use super::stack::{Binding, Stack};
-use super::term::TermState;
+use super::stack::Binding;
+use super::term::want_on;
 use hb_base::Span;
 use hb_grammar::Mark;
 use hb_raw::Word;
@@ -43,9 +43,7 @@ impl HeadRow {
     {
         match self {
             HeadRow::AxiomName(x) => Kind::Row(Row::Head(HeadRow::AxiomColon(x, token.word()))),
-            HeadRow::AxiomColon(x, n) => {
-                Kind::Term(TermState::Want(Before::First, Stack::AxiomType(x, n)))
-            }
+            HeadRow::AxiomColon(x, n) => { want_on(alloc, Base::AxiomType(x, n)) }
             HeadRow::DefinitionName(x) => {
                 let name = Binding::Definition(x, token.word());
                 Kind::Binder(BinderState::Groups(name, Vec::new(alloc)))

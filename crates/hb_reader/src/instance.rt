@@ -11,6 +11,7 @@ ghost use Rattle.hb_reader.specs.Signs.{sign};
 ghost use Rattle.hb_reader.specs.States.{kind, placing, instance_state};
 ghost use Rattle.hb_reader.specs.Views.{instance_of};
 
+use super::frame::{Base, InstanceOf};
 use super::kind::Kind;
 use super::marks::same;
 use super::measure::Measure;
@@ -18,8 +19,8 @@ use super::part::{joined, name_part};
 use super::places::carrier_part;
 use super::sign::Sign;
 use super::spine::{Before, Spine};
-use super::stack::{InstanceOf, Stack};
-use super::term::{TermState, want};
+use super::stack::Stack;
+use super::term::{TermState, want_on};
 use hb_base::Span;
 use hb_grammar::{Mark, Second};
 use hb_raw::Word;
@@ -206,7 +207,7 @@ fn placed(
         Placing::Builder(of, factory, build) => {
             let at = carrier_part(alloc, carrier, &args, extent)?;
             let spine = Spine::head(alloc, name_part(build)).with_argument(at)?;
-            let around = Stack::BuildValue(of, factory, carrier, args);
+            let around = Stack::on(alloc, Base::BuildValue(of, factory, carrier, args));
             Ok(Some(Kind::Term(TermState::More(Before::Making(spine), around))))
         }
     }
@@ -264,6 +265,7 @@ fn after_place_names(
 
 /// The `:=` behind a carrier.
 fn after_carrier(
+    alloc: Global,
     of: InstanceOf,
     factory: Word,
     carrier: Word,
@@ -273,7 +275,7 @@ fn after_carrier(
     ensures { (w : leaf.Sign) → option_map kind result ≡ plain.step (instance_state (instances.Becomes of factory carrier args)) mark w }
 {
     if same(Mark::Becomes, mark) {
-        Some(want(Stack::InstanceValue(of, factory, carrier, args)))
+        Some(want_on(alloc, Base::InstanceValue(of, factory, carrier, args)))
     } else {
         None
     }
@@ -297,7 +299,7 @@ impl InstanceState {
             InstanceState::PlaceNames(p, x, k, ws) => {
                 after_place_names(alloc, p, x, k, ws, mark, token)
             }
-            InstanceState::Becomes(i, f, k, ws) => Ok(after_carrier(i, f, k, ws, mark)),
+            InstanceState::Becomes(i, f, k, ws) => Ok(after_carrier(alloc, i, f, k, ws, mark)),
         }
     }
 

@@ -9,6 +9,7 @@ mod carrier;
 mod closing;
 mod following;
 mod fork;
+mod frame;
 mod groups;
 mod heads;
 mod instance;

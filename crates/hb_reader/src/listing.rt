@@ -9,11 +9,11 @@ ghost use Rattle.hb_reader.specs.Signs.{sign};
 ghost use Rattle.hb_reader.specs.States.{kind, listing, list_state};
 ghost use Rattle.hb_reader.specs.Views.{record_of};
 
+use super::frame::{Base, RecordOf};
 use super::kind::{Kind, finish};
 use super::marks::same;
 use super::sign::Sign;
-use super::stack::{RecordOf, Stack};
-use super::term::want;
+use super::term::want_on;
 use hb_base::Span;
 use hb_grammar::Mark;
 use hb_raw::{CommandKind, Field, Item, Word};
@@ -216,11 +216,17 @@ fn after_fields(r: RecordOf, fields: Vec<Field>, mark: Mark, token: Sign) -> Opt
 }
 
 /// Behind the name of a field.
-fn after_field_name(r: RecordOf, fields: Vec<Field>, name: Word, mark: Mark) -> Option<Kind>
+fn after_field_name(
+    alloc: Global,
+    r: RecordOf,
+    fields: Vec<Field>,
+    name: Word,
+    mark: Mark,
+) -> Option<Kind>
     ensures { (w : leaf.Sign) → option_map kind result ≡ plain.step (list_state (lists.Colon r fields name)) mark w }
 {
     if same(Mark::Colon, mark) {
-        Some(want(Stack::FieldType(r, fields, name)))
+        Some(want_on(alloc, Base::FieldType(r, fields, name)))
     } else {
         None
     }
@@ -238,7 +244,7 @@ impl ListState {
             ListState::ItemOrEnd(x, n, c, is) => Ok(item_or_end(x, n, c, is, mark, token)),
             ListState::Brace(r) => Ok(after_brace(alloc, r, mark)),
             ListState::Fields(r, fs) => Ok(after_fields(r, fs, mark, token)),
-            ListState::Colon(r, fs, f) => Ok(after_field_name(r, fs, f, mark)),
+            ListState::Colon(r, fs, f) => Ok(after_field_name(alloc, r, fs, f, mark)),
         }
     }
 

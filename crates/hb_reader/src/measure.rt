@@ -1,19 +1,18 @@
 //! The nesting of tokens, and which arguments they begin.
 ghost use Rattle.std.specs.Prelude.{◌≡◌, ◌+◌};
-ghost use Rattle.hb_raw.specs.Views.{group, groups};
 ghost use Rattle.hb_grammar.specs.declared.mark.Mark as marks;
 ghost use Rattle.hb_grammar.specs.declared.mark.Mark.TheVariants.{At};
 ghost use Rattle.hb_grammar.specs.Leaf as leaf;
 ghost use Rattle.hb_grammar.specs.Part as shape;
 ghost use Rattle.hb_grammar.specs.Machine as plain;
 ghost use Rattle.hb_reader.specs.Measures.{counted, IsMeasure};
-ghost use Rattle.hb_reader.specs.Views.{before, stack, binding, bound_by, bound_in};
+ghost use Rattle.hb_reader.specs.Stacks.{stack, binding};
+ghost use Rattle.hb_reader.specs.Views.{before};
 
 use super::following::begins_argument;
 use super::spine::Before;
 use super::stack::{Binding, Stack};
 use hb_grammar::Mark;
-use hb_raw::Binder;
 
 /// The nesting of a token, and the number of the argument that it begins, 0 for none. The nesting
 /// stands still at the end of its type.
@@ -23,110 +22,14 @@ pub struct Measure {
     pub applied: u64,
 }
 
-/// How many names a group binds.
-#[tactic(auto, using(crate::proofs::GroupLemmas::bound_by_of))]
-fn name_count(g: &Binder) -> u64
-    ensures { result ≡ bound_by (group g.now) }
-{
-    match g {
-        Binder { names, ty: _ } => names.len() as u64,
-    }
-}
-
-/// How many names groups bind.
-fn bound_count(gs: &Vec<Binder>) -> u64
-    ensures { result ≡ counted (bound_in (groups gs.now.items)) }
-{
-    let mut sum: u64 = 0;
-    for g in gs.iter() {
-        sum = sum.saturating_add(name_count(g));
-    }
-    sum
-}
-
-/// How many bound names, arrows and brackets are around a term.
-pub fn depth(around: &Stack) -> u64
-    ensures { result ≡ counted (plain.depth (stack around.now)) }
-{
-    let mut now = around;
-    let mut sum: u64 = 0;
-    loop {
-        match now {
-            Stack::Right(_, k) => {
-                sum = sum.saturating_add(1);
-                now = k;
-            }
-            Stack::Inside(_, _, k) => {
-                sum = sum.saturating_add(1);
-                now = k;
-            }
-            Stack::Casting(_, _, _, k) => {
-                sum = sum.saturating_add(1);
-                now = k;
-            }
-            Stack::Lone(b, _) => match b {
-                Binding::Product(_, k) => now = k,
-                Binding::Function(_, k) => now = k,
-                Binding::Definition(_, _) => return sum,
-            },
-            Stack::GroupType(b, gs, _) => {
-                sum = sum.saturating_add(bound_count(gs)).saturating_add(1);
-                match b {
-                    Binding::Product(_, k) => now = k,
-                    Binding::Function(_, k) => now = k,
-                    Binding::Definition(_, _) => return sum,
-                }
-            }
-            Stack::Body(b, gs) => {
-                sum = sum.saturating_add(bound_count(gs));
-                match b {
-                    Binding::Product(_, k) => now = k,
-                    Binding::Function(_, k) => now = k,
-                    Binding::Definition(_, _) => return sum,
-                }
-            }
-            Stack::DefinitionType(_, _, gs) => return sum.saturating_add(bound_count(gs)),
-            Stack::DefinitionBody(_, _, gs, _) => return sum.saturating_add(bound_count(gs)),
-            Stack::AxiomType(_, _) | Stack::CarrierFound(_, _) => return sum,
-            Stack::FieldType(_, _, _) => return sum,
-            Stack::InstanceValue(_, _, _, _) | Stack::BuildValue(_, _, _, _) => return sum,
-        }
-    }
-}
-
-/// The same around a list of binders.
-pub fn binding_depth(around: &Binding) -> u64
+/// How many bound names, arrows and brackets are around a list of binders.
+fn binding_depth(around: &Binding) -> u64
     ensures { result ≡ counted (plain.binding_depth (binding around.now)) }
 {
     match around {
-        Binding::Product(_, k) => depth(k),
-        Binding::Function(_, k) => depth(k),
+        Binding::Product(_, k) => k.depth(),
+        Binding::Function(_, k) => k.depth(),
         Binding::Definition(_, _) => 0,
-    }
-}
-
-/// The nesting of what closes a term.
-fn closing(around: &Stack) -> u64
-    ensures { result ≡ counted (plain.closing (stack around.now)) }
-{
-    let mut now = around;
-    loop {
-        match now {
-            Stack::Right(_, k) => now = k,
-            Stack::Body(b, _) => match b {
-                Binding::Product(_, k) => now = k,
-                Binding::Function(_, k) => now = k,
-                Binding::Definition(_, _) => return 0,
-            },
-            Stack::Inside(_, _, k) => return depth(k).saturating_add(1),
-            Stack::Casting(_, _, _, k) => return depth(k).saturating_add(1),
-            Stack::Lone(b, _) => return binding_depth(b),
-            Stack::GroupType(b, _, _) => return binding_depth(b).saturating_add(1),
-            Stack::DefinitionType(_, _, _) | Stack::DefinitionBody(_, _, _, _) => return 0,
-            Stack::AxiomType(_, _) | Stack::CarrierFound(_, _) => return 0,
-            Stack::FieldType(_, _, _) => return 0,
-            Stack::InstanceValue(_, _, _, _) | Stack::BuildValue(_, _, _, _) => return 0,
-        }
     }
 }
 
@@ -156,7 +59,7 @@ fn count_next(b: &Before) -> u64
 fn argument(number: u64, around: &Stack, mark: Mark) -> Measure
     ensures { (b : plain.Before) (w : leaf.Sign) → plain.count b ≡ number → IsMeasure result (plain.argument_leaf b (stack around.now) mark w) }
 {
-    let nested = depth(around);
+    let nested = around.depth();
     match mark {
         Mark::Open => Measure {
             nested: nested.saturating_add(1),
@@ -177,7 +80,7 @@ fn argument_or_close(number: u64, around: &Stack, mark: Mark) -> Measure
         argument(number, around, mark)
     } else {
         Measure {
-            nested: closing(around),
+            nested: around.closing(),
             applied: 0,
         }
     }
@@ -189,7 +92,7 @@ pub fn within(around: &Stack) -> Measure
     ensures applied { result.applied ≡ 0 }
 {
     Measure {
-        nested: depth(around),
+        nested: around.depth(),
         applied: 0,
     }
 }
@@ -242,7 +145,7 @@ pub fn universe_at(b: &Before, around: &Stack, mark: Mark) -> Measure
     match mark {
         Mark::Brace => within(around),
         _ => Measure {
-            nested: depth(around),
+            nested: around.depth(),
             applied: count_next(b),
         },
     }

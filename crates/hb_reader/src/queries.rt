@@ -5,6 +5,7 @@ ghost use Rattle.hb_reader.specs.Rows.{taking, query_row};
 ghost use Rattle.hb_reader.specs.Signs.{sign};
 ghost use Rattle.hb_reader.specs.States.{kind};
 
+use super::frame::Base;
 use super::kind::{Kind, finish};
 use super::marks::same;
 use super::row::Row;
@@ -15,6 +16,7 @@ use super::term::TermState;
 use hb_base::Span;
 use hb_grammar::Mark;
 use hb_raw::{Command, CommandKind, Word};
+use std::alloc::Global;
 
 /// A place in a command of names alone.
 #[derive(Clone, Copy)]
@@ -42,7 +44,7 @@ impl QueryRow {
     }
 
     /// What comes behind it.
-    pub fn behind(self, token: Sign) -> Kind
+    pub fn behind(self, alloc: Global, token: Sign) -> Kind
         ensures { kind result ≡ (query_row self).behind (sign token) }
     {
         let word = token.word();
@@ -50,7 +52,8 @@ impl QueryRow {
             QueryRow::JoinFirst(x) => Kind::Row(Row::Query(QueryRow::JoinSecond(x, word))),
             QueryRow::JoinSecond(x, a) => finish(x, CommandKind::Join { a, b: word }),
             QueryRow::FindStructure(x) => {
-                Kind::Term(TermState::Want(Before::Alone, Stack::CarrierFound(x, word)))
+                let around = Stack::on(alloc, Base::CarrierFound(x, word));
+                Kind::Term(TermState::Want(Before::Alone, around))
             }
             QueryRow::RequireImported(x) => finish(x, CommandKind::Require { name: word }),
             QueryRow::HowtoFirst(x) => Kind::Row(Row::Query(QueryRow::HowtoSecond(x, word))),
@@ -68,11 +71,11 @@ impl QueryRow {
     }
 
     /// What comes behind a token; `None` where another has to come.
-    pub fn after(self, mark: Mark, token: Sign) -> Option<Kind>
+    pub fn after(self, alloc: Global, mark: Mark, token: Sign) -> Option<Kind>
         ensures { option_map kind result ≡ plain.step (taking (query_row self)) mark (sign token) }
     {
         if same(self.mark(), mark) {
-            Some(self.behind(token))
+            Some(self.behind(alloc, token))
         } else {
             None
         }

@@ -35,7 +35,7 @@ impl Row {
     {
         match self {
             Row::Head(r) => r.after(alloc, mark, token),
-            Row::Query(r) => r.after(mark, token),
+            Row::Query(r) => r.after(alloc, mark, token),
             Row::Carrier(r) => r.after(mark, token),
             Row::Builders(r) => r.after(mark, token),
             Row::Structure(r) => r.after(alloc, mark, token),

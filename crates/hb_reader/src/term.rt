@@ -1,18 +1,21 @@
 //! Terms.
-ghost use Rattle.std.specs.Prelude.{◌≡◌, ◌-◌, ℕ, false, cond, IfOk, option_map};
+ghost use Rattle.std.specs.Prelude.{◌≡◌, ◌-◌, ℕ, Some, false, cond, IfOk, option_map};
 ghost use Rattle.hb_grammar.specs.Leaf as leaf;
 ghost use Rattle.hb_grammar.specs.Places.{place_of};
 ghost use Rattle.hb_grammar.specs.Machine as plain;
 ghost use Rattle.hb_reader.specs.declared.term.TermState.TheVariants as terms;
 ghost use Rattle.hb_reader.specs.Arguments.{bare_behind};
+ghost use Rattle.hb_reader.specs.Frames.{base_of, frame_of};
 ghost use Rattle.hb_reader.specs.Measures.{IsMeasure};
 ghost use Rattle.hb_reader.specs.Needs.{is_row};
 ghost use Rattle.hb_reader.specs.Signs.{sign};
 ghost use Rattle.hb_reader.specs.States.{kind, term_state};
-ghost use Rattle.hb_reader.specs.Views.{part, spine, before, stack};
+ghost use Rattle.hb_reader.specs.Stacks.{stack};
+ghost use Rattle.hb_reader.specs.Views.{part, spine, before};
 
 use super::argument::{argument, bare_named, wanted};
 use super::following::after_argument;
+use super::frame::{Base, Frame};
 use super::kind::Kind;
 use super::marks::same;
 use super::measure::{
@@ -61,6 +64,21 @@ pub fn want(around: Stack) -> Kind
     Kind::Term(TermState::Want(Before::First, around))
 }
 
+/// A term that has to come in one more frame.
+pub fn want_in(around: Stack, frame: Frame) -> Result<Option<Kind>, AllocError>
+    ensures { IfOk result (λ o. option_map kind o ≡ Some (plain.want plain.first (frame_of frame (stack around)))) }
+{
+    let around = around.push(frame)?;
+    Ok(Some(want(around)))
+}
+
+/// The first term of a sentence, or of a part of it, that has to come.
+pub fn want_on(alloc: Global, base: Base) -> Kind
+    ensures { kind result ≡ plain.want plain.first (base_of base) }
+{
+    want(Stack::on(alloc, base))
+}
+
 /// Behind the carrier of a builder.
 fn after_carrier(
     alloc: Global,
@@ -92,7 +110,7 @@ fn making(
             let value = built.into_part(alloc)?;
             around.closed(alloc, Mark::End, value, token)
         }
-        _ => argument(alloc, Before::Making(built), around, mark, token),
+        _ => argument(Before::Making(built), around, mark, token),
     }
 }
 
@@ -200,7 +218,7 @@ impl TermState {
         ensures { IfOk result (λ o. option_map kind o ≡ plain.step (term_state self) mark (sign token)) }
     {
         match self {
-            TermState::Want(b, k) => wanted(alloc, b, k, mark, token),
+            TermState::Want(b, k) => wanted(b, k, mark, token),
             TermState::Have(b, a, e, k) => after_argument(alloc, b, a, e, k, mark, token),
             TermState::More(b, k) => after_carrier(alloc, b, k, mark, token),
             TermState::Bare(b, x, k) => Ok(bare_named(b, x, k, mark, token)),

@@ -1,6 +1,7 @@
 use Rattle.std.proofs.Common.{◌∙◌}
 use Rattle.hb_reader.specs.Signs.{sign}
-use Rattle.hb_reader.specs.Views.{before, stack}
+use Rattle.hb_reader.specs.Stacks.{stack}
+use Rattle.hb_reader.specs.Views.{before}
 use Rattle.hb_reader.proofs.MarkLemmas.{unbracketed-is}
 use Rattle.hb_reader.proofs.argument.argument.Goals as goal
 

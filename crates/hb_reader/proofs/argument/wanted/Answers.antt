@@ -1,5 +1,6 @@
 use Rattle.hb_reader.specs.Signs.{sign}
-use Rattle.hb_reader.specs.Views.{before, stack}
+use Rattle.hb_reader.specs.Stacks.{stack}
+use Rattle.hb_reader.specs.Views.{before}
 use Rattle.hb_reader.proofs.MarkLemmas.{begins-else}
 use Rattle.hb_reader.proofs.argument.wanted.Goals as goal
 

@@ -1,5 +1,6 @@
 use Rattle.hb_reader.specs.Signs.{sign}
-use Rattle.hb_reader.specs.Views.{part, before, stack}
+use Rattle.hb_reader.specs.Stacks.{stack}
+use Rattle.hb_reader.specs.Views.{part, before}
 use Rattle.hb_reader.proofs.MarkLemmas.{behind-else, at-applied}
 use Rattle.hb_reader.proofs.following.after_argument.Goals as goal
 

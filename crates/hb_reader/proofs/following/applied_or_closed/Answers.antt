@@ -1,7 +1,8 @@
 use Rattle.std.proofs.Common.{◌≡◌, true, false}
 use Rattle.hb_reader.specs.Arguments.{begins_argument}
 use Rattle.hb_reader.specs.Signs.{sign}
-use Rattle.hb_reader.specs.Views.{part, before, stack}
+use Rattle.hb_reader.specs.Stacks.{stack}
+use Rattle.hb_reader.specs.Views.{part, before}
 use Rattle.hb_reader.proofs.MarkLemmas.{applied-is, ending-is}
 use Rattle.hb_reader.proofs.following.applied_or_closed.Goals as goal
 

@@ -1,5 +1,5 @@
 use Rattle.std.proofs.Common.{sym}
-use Rattle.hb_reader.specs.Views.{stack}
+use Rattle.hb_reader.specs.Stacks.{stack}
 use Rattle.hb_reader.proofs.MeasureLemmas.{argument_leaf_else}
 use Rattle.hb_reader.proofs.measure.argument.Goals as goal
 

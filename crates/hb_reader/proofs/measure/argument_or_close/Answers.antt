@@ -1,6 +1,6 @@
 use Rattle.std.proofs.Common.{◌≡◌, true, false, refl}
 use Rattle.hb_reader.specs.Arguments.{begins_argument}
-use Rattle.hb_reader.specs.Views.{stack}
+use Rattle.hb_reader.specs.Stacks.{stack}
 use Rattle.hb_reader.proofs.MeasureLemmas.{argument_leaf_is, closing_leaf_is}
 use Rattle.hb_reader.proofs.measure.argument_or_close.Goals as goal
 

@@ -1,6 +1,7 @@
 use Rattle.std.proofs.Common.{sym}
 use Rattle.hb_grammar.specs.Machine as plain
-use Rattle.hb_reader.specs.Views.{before, stack}
+use Rattle.hb_reader.specs.Stacks.{stack}
+use Rattle.hb_reader.specs.Views.{before}
 use Rattle.hb_reader.proofs.MeasureLemmas.{behind_leaf_else}
 use Rattle.hb_reader.proofs.measure.behind.Goals as goal
 

@@ -1,5 +1,5 @@
 use Rattle.std.proofs.Common.{refl}
-use Rattle.hb_reader.specs.Views.{binding}
+use Rattle.hb_reader.specs.Stacks.{binding}
 use Rattle.hb_reader.proofs.MeasureLemmas.{binding_leaf_else}
 use Rattle.hb_reader.proofs.measure.bound.Goals as goal
 

@@ -1,4 +1,5 @@
-use Rattle.hb_reader.specs.Views.{before, stack}
+use Rattle.hb_reader.specs.Stacks.{stack}
+use Rattle.hb_reader.specs.Views.{before}
 use Rattle.hb_reader.proofs.MeasureLemmas.{universe_leaf_else}
 use Rattle.hb_reader.proofs.measure.universe_at.Goals as goal
 

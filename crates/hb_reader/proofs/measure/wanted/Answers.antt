@@ -1,5 +1,6 @@
 use Rattle.std.proofs.Common.{sym}
-use Rattle.hb_reader.specs.Views.{before, stack}
+use Rattle.hb_reader.specs.Stacks.{stack}
+use Rattle.hb_reader.specs.Views.{before}
 use Rattle.hb_reader.proofs.MeasureLemmas.{begun_leaf_else}
 use Rattle.hb_reader.proofs.measure.wanted.Goals as goal
 

@@ -1,5 +1,6 @@
 use Rattle.hb_reader.specs.Signs.{sign}
-use Rattle.hb_reader.specs.Views.{spine, stack}
+use Rattle.hb_reader.specs.Stacks.{stack}
+use Rattle.hb_reader.specs.Views.{spine}
 use Rattle.hb_reader.proofs.MarkLemmas.{making-else}
 use Rattle.hb_reader.proofs.term.making.Goals as goal
 

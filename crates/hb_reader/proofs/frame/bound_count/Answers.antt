@@ -1,6 +1,6 @@
 use Rattle.std.proofs.Common.{arith}
 use Rattle.hb_reader.proofs.MeasureLemmas.{bound_in_take}
-use Rattle.hb_reader.proofs.measure.bound_count.Goals as goal
+use Rattle.hb_reader.proofs.frame.bound_count.Goals as goal
 
 pub loop-g-preserved : goal.loop-g-preserved
 loop-g-preserved c =
