@@ -73,6 +73,10 @@ abbrev pub product_text : (used left : Bool) → ℕ → (domain codomain : List
 product_text true left d domain codomain = binder_text (codes "forall _") (codes ", ") d domain codomain
 product_text false left d domain codomain = joined (opening left ∷ domain ∷ closing left ∷ codes " -> " ∷ codomain ∷ [])
 
+-- the projection of a field out of a value
+abbrev pub projection_text : (compound : Bool) → (value field : List ℕ) → List ℕ
+projection_text compound value field = joined (opening compound ∷ value ∷ closing compound ∷ codes ".(" ∷ field ∷ codes ")" ∷ [])
+
 -- the text of a term under d binders, with these names and this environment
 abbrev pub text : List (List ℕ) → List Decl → ℕ → Tree → List ℕ
 text N E d (sort s) = sort_text s
@@ -82,6 +86,5 @@ text N E d (lam a b) = binder_text (codes "fun _") (codes " => ") d (text N E d 
 text N E d (app f a) =
     joined (opening (is_binder f) ∷ text N E d f ∷ closing (is_binder f) ∷ codes " " ∷ opening (is_compound a) ∷ text N E d a ∷ closing (is_compound a) ∷ [])
 text N E d (const c) = name_text N (const_name (slice_get E c.decl) c) c.decl
-text N E d (proj r i t) =
-    joined (opening (is_compound t) ∷ text N E d t ∷ closing (is_compound t) ∷ codes ".(" ∷ name_text N (field_name (slice_get E r.0) i) r.0 ∷ codes ")" ∷ [])
+text N E d (proj r i t) = projection_text (is_compound t) (text N E d t) (name_text N (field_name (slice_get E r.0) i) r.0)
 text N E d (hole h) = joined (codes "?" ∷ decimal h ∷ [])

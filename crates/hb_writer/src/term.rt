@@ -1,16 +1,16 @@
 //! Terms.
-ghost use Rattle.std.specs.Prelude.{◌≡◌, ◌+◌, ◌-◌, ◌*◌, ◌<◌, ◌++◌, IfOk, OnOk, List, ℕ, string_bytes, take};
+ghost use Rattle.std.specs.Prelude.{◌≡◌, ◌+◌, ◌-◌, ◌*◌, ◌<◌, ◌++◌, IfOk, OnOk, List, ℕ, false, option_map, string_bytes, take};
 ghost use Rattle.hb_calculus.specs.Declarations.{Decl};
-ghost use Rattle.hb_tree.specs.Tree.{nodes};
+ghost use Rattle.hb_tree.specs.Tree.{nodes, app};
 ghost use Rattle.hb_term.specs.Meaning.{tree};
 ghost use Rattle.hb_writer.specs.Pieces.{piece_text, stack_text, weight, weights};
 ghost use Rattle.hb_writer.specs.Text as spec;
-ghost use Rattle.hb_writer.specs.Text.{text};
+ghost use Rattle.hb_writer.specs.Text.{text, sort_text, binder_text, product_text, projection_text, name_text};
 
 use crate::names::{constant_name, field_name};
 use crate::piece::Piece;
 use crate::stack::put_before;
-use hb_base::Names;
+use hb_base::{NameId, Names};
 use hb_env::Env;
 use hb_term::{Scoped, Sort, Term, View};
 use std::alloc::{AllocError, Global};
@@ -31,8 +31,9 @@ pub fn term_text(
     }
 }
 
-/// A text whose first `most` bytes are those of the term's text. It takes the time of these bytes,
-/// however long the text is, and no stack for the depth of the term. Out of memory is the one error.
+/// A text whose first `most` bytes are those of the term's text. What is written behind them isn't
+/// looked at, but for the question whether a product's variable is used, and no stack is taken for
+/// the depth of the term. Out of memory is the one error.
 pub fn term_front(
     alloc: Global,
     names: &Names,
@@ -99,8 +100,39 @@ fn take_apart<'a>(
     ensures falls { OnOk result (weights stack.new.items < 8 * nodes (tree term.now) + weights stack.old.items) }
 {
     match term.view() {
-        View::Sort(Sort::Prop) => put_before(stack, &[Piece::Sign("Prop")]),
-        View::Sort(Sort::Level(level)) => put_before(
+        View::Sort(sort) => put_sort(sort, stack),
+        View::Rel(v) => {
+            let level = depth.saturating_sub(1).saturating_sub(u64::from(v));
+            put_before(stack, &[Piece::Sign("_"), Piece::Number(level)])
+        }
+        View::Pi(domain, codomain) => {
+            if codomain.occurs(0) {
+                put_binder("forall _", ", ", depth, domain, codomain, stack)
+            } else {
+                put_arrow(depth, domain, codomain, stack)
+            }
+        }
+        View::Lam(domain, body) => put_binder("fun _", " => ", depth, domain, body, stack),
+        View::App(function, argument) => put_application(depth, function, argument, stack),
+        View::Const(constant) => put_before(
+            stack,
+            &[Piece::Name(constant_name(env, constant), constant.decl)],
+        ),
+        View::Proj(rec, field, of) => {
+            put_projection(depth, of, (field_name(env, rec, field), rec.0), stack)
+        }
+        View::Hole(hole) => put_before(stack, &[Piece::Sign("?"), Piece::Number(u64::from(hole))]),
+    }
+}
+
+/// Puts the pieces of a sort on the stack.
+fn put_sort<'a>(sort: Sort, stack: &mut Vec<Piece<'a>>) -> Result<(), AllocError>
+    ensures text { OnOk result ((N : List (List ℕ)) (E : List Decl) → stack_text N E stack.new.items ≡ sort_text sort ++ stack_text N E stack.old.items) }
+    ensures falls { OnOk result (weights stack.new.items < 8 + weights stack.old.items) }
+{
+    match sort {
+        Sort::Prop => put_before(stack, &[Piece::Sign("Prop")]),
+        Sort::Level(level) => put_before(
             stack,
             &[
                 Piece::Sign("Type@{"),
@@ -108,88 +140,108 @@ fn take_apart<'a>(
                 Piece::Sign("}"),
             ],
         ),
-        View::Rel(v) => {
-            let level = depth.saturating_sub(1).saturating_sub(u64::from(v));
-            put_before(stack, &[Piece::Sign("_"), Piece::Number(level)])
-        }
-        View::Pi(domain, codomain) => {
-            let inside = depth.checked_add(1).ok_or(AllocError)?;
-            if codomain.occurs(0) {
-                put_before(
-                    stack,
-                    &[
-                        Piece::Sign("forall _"),
-                        Piece::Number(depth),
-                        Piece::Sign(" : "),
-                        Piece::Part(depth, domain),
-                        Piece::Sign(", "),
-                        Piece::Part(inside, codomain),
-                    ],
-                )
-            } else {
-                let wrapped = is_binder(domain);
-                put_before(
-                    stack,
-                    &[
-                        opening(wrapped),
-                        Piece::Part(depth, domain),
-                        closing(wrapped),
-                        Piece::Sign(" -> "),
-                        Piece::Part(inside, codomain),
-                    ],
-                )
-            }
-        }
-        View::Lam(domain, body) => {
-            let inside = depth.checked_add(1).ok_or(AllocError)?;
-            put_before(
-                stack,
-                &[
-                    Piece::Sign("fun _"),
-                    Piece::Number(depth),
-                    Piece::Sign(" : "),
-                    Piece::Part(depth, domain),
-                    Piece::Sign(" => "),
-                    Piece::Part(inside, body),
-                ],
-            )
-        }
-        View::App(function, argument) => {
-            let head = is_binder(function);
-            let side = is_compound(argument);
-            put_before(
-                stack,
-                &[
-                    opening(head),
-                    Piece::Part(depth, function),
-                    closing(head),
-                    Piece::Sign(" "),
-                    opening(side),
-                    Piece::Part(depth, argument),
-                    closing(side),
-                ],
-            )
-        }
-        View::Const(constant) => put_before(
-            stack,
-            &[Piece::Name(constant_name(env, constant), constant.decl)],
-        ),
-        View::Proj(rec, field, of) => {
-            let wrapped = is_compound(of);
-            put_before(
-                stack,
-                &[
-                    opening(wrapped),
-                    Piece::Part(depth, of),
-                    closing(wrapped),
-                    Piece::Sign(".("),
-                    Piece::Name(field_name(env, rec, field), rec.0),
-                    Piece::Sign(")"),
-                ],
-            )
-        }
-        View::Hole(hole) => put_before(stack, &[Piece::Sign("?"), Piece::Number(u64::from(hole))]),
     }
+}
+
+/// Puts the pieces of a binder on the stack: its word, its type, its sign and what it is over.
+fn put_binder<'a>(
+    word: &'a str,
+    sign: &'a str,
+    depth: u64,
+    domain: &'a Term,
+    body: &'a Term,
+    stack: &mut Vec<Piece<'a>>,
+) -> Result<(), AllocError>
+    ensures text { OnOk result ((N : List (List ℕ)) (E : List Decl) → stack_text N E stack.new.items ≡ binder_text word.now sign.now depth (text N E depth (tree domain.now)) (text N E (depth + 1) (tree body.now)) ++ stack_text N E stack.old.items) }
+    ensures falls { OnOk result (weights stack.new.items < 8 * (1 + nodes (tree domain.now) + nodes (tree body.now)) + weights stack.old.items) }
+{
+    let inside = depth.checked_add(1).ok_or(AllocError)?;
+    put_before(
+        stack,
+        &[
+            Piece::Sign(word),
+            Piece::Number(depth),
+            Piece::Sign(" : "),
+            Piece::Part(depth, domain),
+            Piece::Sign(sign),
+            Piece::Part(inside, body),
+        ],
+    )
+}
+
+/// Puts the pieces of a product whose variable isn't used on the stack.
+fn put_arrow<'a>(
+    depth: u64,
+    domain: &'a Term,
+    codomain: &'a Term,
+    stack: &mut Vec<Piece<'a>>,
+) -> Result<(), AllocError>
+    ensures text { OnOk result ((N : List (List ℕ)) (E : List Decl) → stack_text N E stack.new.items ≡ product_text false (spec.is_binder (tree domain.now)) depth (text N E depth (tree domain.now)) (text N E (depth + 1) (tree codomain.now)) ++ stack_text N E stack.old.items) }
+    ensures falls { OnOk result (weights stack.new.items < 8 * (1 + nodes (tree domain.now) + nodes (tree codomain.now)) + weights stack.old.items) }
+{
+    let inside = depth.checked_add(1).ok_or(AllocError)?;
+    let wrapped = is_binder(domain);
+    put_before(
+        stack,
+        &[
+            opening(wrapped),
+            Piece::Part(depth, domain),
+            closing(wrapped),
+            Piece::Sign(" -> "),
+            Piece::Part(inside, codomain),
+        ],
+    )
+}
+
+/// Puts the pieces of an application on the stack.
+fn put_application<'a>(
+    depth: u64,
+    function: &'a Term,
+    argument: &'a Term,
+    stack: &mut Vec<Piece<'a>>,
+) -> Result<(), AllocError>
+    ensures text { OnOk result ((N : List (List ℕ)) (E : List Decl) → stack_text N E stack.new.items ≡ text N E depth (app (tree function.now) (tree argument.now)) ++ stack_text N E stack.old.items) }
+    ensures falls { OnOk result (weights stack.new.items < 8 * (1 + nodes (tree function.now) + nodes (tree argument.now)) + weights stack.old.items) }
+{
+    let head = is_binder(function);
+    let side = is_compound(argument);
+    put_before(
+        stack,
+        &[
+            opening(head),
+            Piece::Part(depth, function),
+            closing(head),
+            Piece::Sign(" "),
+            opening(side),
+            Piece::Part(depth, argument),
+            closing(side),
+        ],
+    )
+}
+
+/// Puts the pieces of a projection on the stack: the value, and the name of the field or else the
+/// number of its record.
+fn put_projection<'a>(
+    depth: u64,
+    of: &'a Term,
+    field: (Option<NameId>, u32),
+    stack: &mut Vec<Piece<'a>>,
+) -> Result<(), AllocError>
+    ensures text { OnOk result ((N : List (List ℕ)) (E : List Decl) → stack_text N E stack.new.items ≡ projection_text (spec.is_compound (tree of.now)) (text N E depth (tree of.now)) (name_text N (option_map (λ n. n.0) field.0) field.1) ++ stack_text N E stack.old.items) }
+    ensures falls { OnOk result (weights stack.new.items < 8 * (1 + nodes (tree of.now)) + weights stack.old.items) }
+{
+    let wrapped = is_compound(of);
+    put_before(
+        stack,
+        &[
+            opening(wrapped),
+            Piece::Part(depth, of),
+            closing(wrapped),
+            Piece::Sign(".("),
+            Piece::Name(field.0, field.1),
+            Piece::Sign(")"),
+        ],
+    )
 }
 
 /// A parenthesis before, where it is wanted.
