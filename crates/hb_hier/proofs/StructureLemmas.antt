@@ -7,8 +7,9 @@ use Rattle.hb_sets.proofs.SetLemmas.{Inside-itself, Inside-through}
 use Rattle.hb_order.specs.Heirs.{mix, IsHeir, IsCommonHeir, IsJoin}
 use Rattle.hb_order.specs.Allowed.{IsMissing, IsAllowed, AllAllowed, NoneAbove, NoneMissingWith}
 use Rattle.hb_order.proofs.AllowedLemmas.{lawful, one-join, AllAllowed-push}
-use Rattle.hb_hier.specs.Hierarchy.{MOST, Grouped, Given, sets_of}
-use Rattle.hb_hier.specs.Keeping.{AllGivingsBelow}
+use Rattle.hb_givings.specs.Givings.{Given}
+use Rattle.hb_hier.specs.Hierarchy.{MOST, Grouped, sets_of}
+use Rattle.hb_hier.specs.Giving.{AllBindersBelow}
 
 -- the first common heir is the join, since no earlier structure is an heir of a later one
 pub first-join : (h : List Set) → AllAllowed h → (a b k : ℕ) → a < length h → b < length h → IsCommonHeir h a b k → ((i : ℕ) → i < k → ¬ (IsCommonHeir h a b i)) → IsJoin h a b k
@@ -85,8 +86,5 @@ pub few-push : (old new : List Grouped) (s : Grouped) → new ≡ old ++ s ∷ [
 few-push old new s is lt = omega (arith, ap length is, length_push old s, lt)
 
 -- more structures: what was declared still is
-pub asked-wider : (old new : List Grouped) (s : Grouped) → new ≡ old ++ s ∷ [] → (gs : List Given) → AllGivingsBelow (length old) gs → AllGivingsBelow (length new) gs
-asked-wider old new s is gs all i lt = record {
-  below = λ j t asks. let u = (all i lt).below j t asks in omega (arith, u, ap length is, length_push old s);
-  few = (all i lt).few;
-}
+pub asked-wider : (old new : List Grouped) (s : Grouped) → new ≡ old ++ s ∷ [] → (gs : List Given) → AllBindersBelow (length old) gs → AllBindersBelow (length new) gs
+asked-wider old new s is gs all i lt j t asks = let u = all i lt j t asks in omega (arith, u, ap length is, length_push old s)

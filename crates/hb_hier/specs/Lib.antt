@@ -7,5 +7,4 @@ pub mod Undoing
 pub mod Keeping
 pub mod Kept
 pub mod Pairs
-pub mod LastAt
 pub mod Least

@@ -3,9 +3,8 @@ ghost use Rattle.std.specs.Prelude.{◌≡◌, ℕ, ◌<◌, ◌≤◌, [], leng
 ghost use Rattle.hb_hier.specs.Hierarchy.{Hierarchy, MOST, nothing};
 
 use crate::known::Known;
-use crate::records::{Declaration, Ending, Instance, Structure, Tally};
-use hb_sets::MixSet;
-use hb_tree::ConstId;
+use crate::records::{Declaration, Ending, Structure};
+use hb_givings::Givings;
 use std::alloc::{AllocError, Global};
 use std::marker::Model;
 
@@ -19,10 +18,7 @@ pub struct Hier {
     pub(crate) factories: Vec<Declaration>,
     pub(crate) endings: Vec<Ending>,
     pub(crate) structures: Vec<Structure>,
-    pub(crate) givings: Vec<Instance>,
-    pub(crate) tallies: Vec<Tally>,
-    pub(crate) carriers: Vec<ConstId>,
-    pub(crate) nothing: MixSet,
+    pub(crate) givings: Givings,
 }
 
 impl Model for Hier {
@@ -43,7 +39,7 @@ impl Model for Hier {
           factories = h.factories.items;
           endings = h.endings.items;
           structures = h.structures.items;
-          givings = h.givings.items;
+          givings = h.givings;
         } };
 
     ghost invariant = { IsKept };
@@ -61,10 +57,7 @@ impl Hier {
             factories: Vec::new(alloc),
             endings: Vec::new(alloc),
             structures: Vec::new(alloc),
-            givings: Vec::new(alloc),
-            tallies: Vec::new(alloc),
-            carriers: Vec::new(alloc),
-            nothing: MixSet::empty(),
+            givings: Givings::new(alloc)?,
         })
     }
 

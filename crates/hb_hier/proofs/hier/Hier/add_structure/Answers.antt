@@ -20,9 +20,5 @@ invariant_of-self-2 c =
       ended_once = old.ended_once;
       few_structures = few-push c.self.inside.structures.items _ _ c.in_ok-push.ensures.items (subst (λ (h : Hierarchy). length h.structures < MOST) (sym c.self.view_is) c.in_ok-check_set.ensures.room);
       allowed = all-push c.self.inside.structures.items _ _ c.in_ok-push.ensures.items old.allowed (subst (λ (h : Hierarchy). IsAllowed (sets h) c.brought-mixins.result) (sym c.self.view_is) c.in_ok-check_set.ensures.allowed);
-      none_given = old.none_given;
-      few_givings = old.few_givings;
-      tallied = old.tallied;
-      carried = old.carried;
-      asked = asked-wider c.self.inside.structures.items _ _ c.in_ok-push.ensures.items c.self.inside.givings.items old.asked;
+      asked = asked-wider c.self.inside.structures.items _ _ c.in_ok-push.ensures.items c.self.inside.givings old.asked;
     }
