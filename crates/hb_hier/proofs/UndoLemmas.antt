@@ -4,11 +4,9 @@ use Rattle.std.specs.Prelude.{fold}
 use Rattle.std.specs.List.{list_any}
 use Rattle.std.proofs.lemmas.List.{length-take, take-take, get_or-take, take-append-le}
 use Rattle.std.proofs.Math.Seq.{take-length}
-use Rattle.hb_order.specs.Allowed.{AllAllowed}
-use Rattle.hb_order.proofs.AllowedLemmas.{AllAllowed-take}
 use Rattle.hb_tree.specs.declared.leaves.ConstId.{ConstId}
 use Rattle.hb_hier.specs.declared.records.Tally.{Tally}
-use Rattle.hb_hier.specs.Hierarchy.{Ended, Grouped, Given, ungiven, sets_of}
+use Rattle.hb_hier.specs.Hierarchy.{Ended, Grouped, Given, ungiven}
 use Rattle.hb_hier.specs.Giving.{same_const, with_carrier, carriers_of, BindersBelow, AllBindersBelow}
 use Rattle.hb_hier.specs.Keeping.{untallied, IsTally, AreTallied, IsGivingBelow, AllGivingsBelow, AreDistinct}
 use Rattle.hb_hier.proofs.EndingLemmas.{distinct-take}
@@ -63,14 +61,6 @@ tallied-take gs ts n tallied = record {
   tally = λ i lt. tally-take gs ts n i (omega (arith, length-take n gs, lt)) (tallied.tally i (omega (arith, length-take n gs, lt)));
 }
 
-sets-take : (structures : List Grouped) (n : ℕ) → sets_of (take n structures) ≡ take n (sets_of structures)
-sets-take structures zero = refl
-sets-take [] (suc n) = refl
-sets-take (s ∷ structures) (suc n) = ap (λ r. s.mixins ∷ r) (sets-take structures n)
-
-pub allowed-take : (structures : List Grouped) (n : ℕ) → AllAllowed (sets_of structures) → AllAllowed (sets_of (take n structures))
-allowed-take structures n all = subst AllAllowed (sym (sets-take structures n)) (AllAllowed-take (sets_of structures) n all)
-
 pub below-take : (structures : List Grouped) (gs : List Given) (s n : ℕ) → AllGivingsBelow (length structures) gs → AllBindersBelow s (take n gs) → AllGivingsBelow (length (take s structures)) (take n gs)
 below-take structures gs s n all kept i lt =
     let small : i < n = omega (arith, length-take n gs, lt) in
@@ -86,9 +76,6 @@ below-take structures gs s n all kept i lt =
 
 pub few-take : {X : Type 0} (n most : ℕ) (xs ys : List X) → ys ≡ take n xs → length xs ≤ most → length ys ≤ most
 few-take n most xs ys is le = omega (arith, ap length is, length-take n xs, le)
-
-pub allowed-cut : (structures cut : List Grouped) (n : ℕ) → cut ≡ take n structures → AllAllowed (sets_of structures) → AllAllowed (sets_of cut)
-allowed-cut structures cut n is all = subst (λ (l : List Grouped). AllAllowed (sets_of l)) (sym is) (allowed-take structures n all)
 
 pub tallied-cut : (gs gs' : List Given) (ts ts' : List Tally) (n : ℕ) → gs' ≡ take n gs → ts' ≡ take n ts → AreTallied gs ts → AreTallied gs' ts'
 tallied-cut gs gs' ts ts' n is_gs is_ts tallied = rw (is_gs, is_ts) (tallied-take gs ts n tallied)

@@ -1,9 +1,10 @@
 //! The hierarchy of a session.
 ghost use Rattle.std.specs.Prelude.{◌≡◌, ℕ, ◌<◌, ◌≤◌, [], length, IfOk};
-ghost use Rattle.hb_hier.specs.Hierarchy.{Hierarchy, MOST, nothing};
+ghost use Rattle.hb_hier.specs.Hierarchy.{Hierarchy, MOST, nothing, sets};
 
 use crate::known::Known;
 use crate::records::{Declaration, Ending, Instance, Structure, Tally};
+use hb_joins::Joins;
 use hb_sets::MixSet;
 use hb_tree::ConstId;
 use std::alloc::{AllocError, Global};
@@ -19,6 +20,7 @@ pub struct Hier {
     pub(crate) factories: Vec<Declaration>,
     pub(crate) endings: Vec<Ending>,
     pub(crate) structures: Vec<Structure>,
+    pub(crate) joins: Joins,
     pub(crate) givings: Vec<Instance>,
     pub(crate) tallies: Vec<Tally>,
     pub(crate) carriers: Vec<ConstId>,
@@ -54,6 +56,7 @@ impl Hier {
     pub fn new(alloc: Global) -> Result<Hier, AllocError>
         ensures { IfOk result (λ h. h ≡ nothing) }
     {
+        let joins = Joins::new(alloc)?;
         Ok(Hier {
             alloc,
             order: Vec::new(alloc),
@@ -61,6 +64,7 @@ impl Hier {
             factories: Vec::new(alloc),
             endings: Vec::new(alloc),
             structures: Vec::new(alloc),
+            joins,
             givings: Vec::new(alloc),
             tallies: Vec::new(alloc),
             carriers: Vec::new(alloc),
@@ -82,5 +86,13 @@ impl Hier {
         ensures bound { result ≤ MOST }
     {
         self.structures.len() as u16
+    }
+
+    /// The joins of the structures.
+    pub(crate) fn joins(&self) -> &Joins
+        ensures sets { result.now ≡ sets self.now }
+        ensures count { length result.now ≡ length self.now.structures }
+    {
+        &self.joins
     }
 }

@@ -36,6 +36,7 @@ impl Hier {
         self.factories.truncate(mark.factories as usize);
         self.endings.truncate(mark.ended as usize);
         self.structures.truncate(mark.structures as usize);
+        self.joins.cut(mark.structures);
         self.givings.truncate(mark.givings as usize);
         self.tallies.truncate(mark.givings as usize);
         self.carriers.truncate(carriers);

@@ -25,7 +25,7 @@ invariant_of-self-2 c =
       ended_once = old.ended_once;
       few_structures = old.few_structures;
       few_givings = few-after gs _ g is_gs (subst (λ (h : Hierarchy). length h.givings < 2 ^ 32 - 1) (sym view) c.requires.room);
-      allowed = old.allowed;
+      joined = old.joined;
       none_given = old.none_given;
       tallied = tallied-after gs _ c.self.inside.tallies.items _ c.add_carrier.new.carriers.items g t is_gs is_ts old.tallied
           (c.union-given.ensures ∙ ap (λ s. union s c.args.gives) (c.given.ensures ∙ ap (λ (h : Hierarchy). given (givings_at h.givings c.args.carrier)) (sym view))) is_ks c.carrier_count-carriers.ensures;

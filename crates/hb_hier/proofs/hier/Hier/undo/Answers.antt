@@ -3,7 +3,8 @@ use Rattle.std.proofs.lemmas.List.{length-take}
 use Rattle.hb_hier.specs.Hierarchy.{MOST, Hierarchy}
 use Rattle.hb_hier.specs.Giving.{AllBindersBelow}
 use Rattle.hb_hier.specs.Undoing.{cut}
-use Rattle.hb_hier.proofs.UndoLemmas.{few-take, allowed-cut, tallied-cut, carried-cut, below-cut, distinct-cut}
+use Rattle.hb_hier.proofs.StructureLemmas.{joined-take}
+use Rattle.hb_hier.proofs.UndoLemmas.{few-take, tallied-cut, carried-cut, below-cut, distinct-cut}
 use Rattle.hb_hier.proofs.hier.Hier.undo.Goals as goal
 
 pub invariant_of-self : goal.invariant_of-self
@@ -19,7 +20,7 @@ invariant_of-self c =
       few_structures = few-take c.args.mark.structures MOST c.self.inside.structures.items _ c.truncate-4.ensures.items old.few_structures;
       ended_once = distinct-cut c.self.inside.endings.items _ c.args.mark.ended c.truncate-3.ensures.items old.ended_once;
       few_givings = omega (arith, ap length c.truncate-5.ensures.items, length-take n c.self.inside.givings.items, old.few_givings);
-      allowed = allowed-cut c.self.inside.structures.items _ c.args.mark.structures c.truncate-4.ensures.items old.allowed;
+      joined = joined-take c.self.inside.structures.items _ c.self.inside.joins c.cut.new.self c.args.mark.structures c.truncate-4.ensures.items c.cut.ensures old.joined;
       none_given = old.none_given;
       tallied = tallied-cut c.self.inside.givings.items _ c.self.inside.tallies.items _ n c.truncate-5.ensures.items c.truncate-6.ensures.items old.tallied;
       carried = carried-cut c.self.inside.givings.items _ c.self.inside.tallies.items c.self.inside.carriers.items _ n c.carriers_before-carriers.result old.tallied old.carried within
