@@ -1,6 +1,5 @@
 -- What the fields of a hierarchy keep.
-use Rattle.std.specs.Prelude.{◌≤◌, length}
-use Rattle.hb_order.specs.Allowed.{AllAllowed}
+use Rattle.std.specs.Prelude.{◌≡◌, ◌≤◌, length}
 use Rattle.hb_hier.specs.Hierarchy.{MOST, sets_of}
 use Rattle.hb_hier.specs.Giving.{AllBindersBelow}
 use Rattle.hb_hier.specs.Keeping.{AreDistinct}
@@ -11,5 +10,5 @@ pub record IsKept (h : Inside) : Type 0 where
   pub few_factories : length h.factories.items ≤ MOST
   pub few_structures : length h.structures.items ≤ MOST
   pub ended_once : AreDistinct h.endings.items
-  pub allowed : AllAllowed (sets_of h.structures.items)
+  pub joined : h.joins ≡ sets_of h.structures.items
   pub asked : AllBindersBelow (length h.structures.items) h.givings

@@ -1,10 +1,11 @@
 //! The hierarchy of a session.
 ghost use Rattle.std.specs.Prelude.{◌≡◌, ℕ, ◌<◌, ◌≤◌, [], length, IfOk};
-ghost use Rattle.hb_hier.specs.Hierarchy.{Hierarchy, MOST, nothing};
+ghost use Rattle.hb_hier.specs.Hierarchy.{Hierarchy, MOST, nothing, sets};
 
 use crate::known::Known;
 use crate::records::{Declaration, Ending, Structure};
 use hb_givings::Givings;
+use hb_joins::Joins;
 use std::alloc::{AllocError, Global};
 use std::marker::Model;
 
@@ -18,6 +19,7 @@ pub struct Hier {
     pub(crate) factories: Vec<Declaration>,
     pub(crate) endings: Vec<Ending>,
     pub(crate) structures: Vec<Structure>,
+    pub(crate) joins: Joins,
     pub(crate) givings: Givings,
 }
 
@@ -50,6 +52,8 @@ impl Hier {
     pub fn new(alloc: Global) -> Result<Hier, AllocError>
         ensures { IfOk result (λ h. h ≡ nothing) }
     {
+        let joins = Joins::new(alloc)?;
+        let givings = Givings::new(alloc)?;
         Ok(Hier {
             alloc,
             order: Vec::new(alloc),
@@ -57,7 +61,8 @@ impl Hier {
             factories: Vec::new(alloc),
             endings: Vec::new(alloc),
             structures: Vec::new(alloc),
-            givings: Givings::new(alloc)?,
+            joins,
+            givings,
         })
     }
 
@@ -75,5 +80,13 @@ impl Hier {
         ensures bound { result ≤ MOST }
     {
         self.structures.len() as u16
+    }
+
+    /// The joins of the structures.
+    pub(crate) fn joins(&self) -> &Joins
+        ensures sets { result.now ≡ sets self.now }
+        ensures count { length result.now ≡ length self.now.structures }
+    {
+        &self.joins
     }
 }

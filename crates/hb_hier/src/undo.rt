@@ -33,6 +33,7 @@ impl Hier {
         self.factories.truncate(mark.factories as usize);
         self.endings.truncate(mark.ended as usize);
         self.structures.truncate(mark.structures as usize);
+        self.joins.cut(mark.structures);
         self.givings.cut(mark.givings);
     }
 }

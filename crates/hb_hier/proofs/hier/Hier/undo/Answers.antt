@@ -3,7 +3,8 @@ use Rattle.std.proofs.lemmas.List.{length-take}
 use Rattle.hb_hier.specs.Hierarchy.{MOST, Hierarchy}
 use Rattle.hb_hier.specs.Giving.{AllBindersBelow}
 use Rattle.hb_hier.specs.Undoing.{cut}
-use Rattle.hb_hier.proofs.UndoLemmas.{few-take, allowed-cut, below-cut, distinct-cut}
+use Rattle.hb_hier.proofs.StructureLemmas.{joined-take}
+use Rattle.hb_hier.proofs.UndoLemmas.{few-take, below-cut, distinct-cut}
 use Rattle.hb_hier.proofs.hier.Hier.undo.Goals as goal
 
 pub invariant_of-self : goal.invariant_of-self
@@ -17,8 +18,8 @@ invariant_of-self c =
       few_factories = few-take c.args.mark.factories MOST c.self.inside.factories.items _ c.truncate-2.ensures.items old.few_factories;
       few_structures = few-take c.args.mark.structures MOST c.self.inside.structures.items _ c.truncate-4.ensures.items old.few_structures;
       ended_once = distinct-cut c.self.inside.endings.items _ c.args.mark.ended c.truncate-3.ensures.items old.ended_once;
-      allowed = allowed-cut c.self.inside.structures.items _ c.args.mark.structures c.truncate-4.ensures.items old.allowed;
-      asked = below-cut c.self.inside.structures.items _ c.self.inside.givings _ c.args.mark.structures n c.truncate-4.ensures.items c.cut.ensures old.asked asked;
+      joined = joined-take c.self.inside.structures.items _ c.self.inside.joins c.cut.new.self c.args.mark.structures c.truncate-4.ensures.items c.cut.ensures old.joined;
+      asked = below-cut c.self.inside.structures.items _ c.self.inside.givings _ c.args.mark.structures n c.truncate-4.ensures.items c.cut-2.ensures old.asked asked;
     }
 
 pub returns : goal.returns
@@ -29,6 +30,6 @@ returns c =
       factories = c.truncate-2.ensures.items i;
       endings = c.truncate-3.ensures.items i;
       structures = c.truncate-4.ensures.items i;
-      givings = c.cut.ensures i;
+      givings = c.cut-2.ensures i;
     })
     ∙ ap (λ (h : Hierarchy). cut h c.args.mark) c.self.view_is

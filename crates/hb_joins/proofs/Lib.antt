@@ -1,0 +1,4 @@
+pub mod ChangeLemmas
+pub mod ListLemmas
+pub mod TableLemmas
+pub mod CandidateLemmas
