@@ -1,6 +1,5 @@
 -- What was given to each carrier, and when a giving is refused.
-use Rattle.std.specs.Prelude.{◌≡◌, ℕ, ◌<◌, Bool, true, false, ◌==◌, ◌&&◌, not, if◌then◌else◌, List, [], ◌∷◌, ◌++◌, length, fold, Option, None, Some, slice_index_or}
-use Rattle.std.specs.List.{list_any}
+use Rattle.std.specs.Prelude.{◌≡◌, ℕ, ◌<◌, if◌then◌else◌, List, [], ◌∷◌, ◌++◌, length, Option, None, Some, slice_index_or}
 use Rattle.hb_base.specs.declared.name_id.NameId.{NameId}
 use Rattle.hb_sets.specs.Set.{Set, In, empty}
 use Rattle.hb_order.specs.declared.ids.StructId.{StructId}

@@ -1,5 +1,5 @@
 -- A hierarchy: what was declared, ended and given, each as a list in its order.
-use Rattle.std.specs.Prelude.{false, ℕ, ◌<◌, Bool, ◌==◌, List, [], length, map, fold, position, Option, None, Some, slice_get, slice_index_or}
+use Rattle.std.specs.Prelude.{ℕ, ◌<◌, Bool, ◌==◌, List, [], length, map, fold, position, Option, None, Some, slice_get, slice_index_or}
 use Rattle.std.specs.List.{list_any, position_or_len}
 use Rattle.std.specs.Option.{option_map}
 use Rattle.hb_base.specs.declared.name_id.NameId.{NameId}

@@ -1,4 +1,4 @@
-use Rattle.std.proofs.Common.{◌≡◌, length, sym, subst}
+use Rattle.std.proofs.Common.{length, sym, subst}
 use Rattle.hb_hier.specs.Hierarchy.{Hierarchy}
 use Rattle.hb_hier.specs.Giving.{BindersBelow}
 use Rattle.hb_hier.proofs.GivenLemmas.{below-after}

@@ -1,5 +1,4 @@
-use Rattle.std.proofs.Common.{◌≤◌, length, take, sym, ap, ◌∙◌, subst, arith}
-use Rattle.std.proofs.lemmas.List.{length-take}
+use Rattle.std.proofs.Common.{take, sym, ap, ◌∙◌, subst}
 use Rattle.hb_hier.specs.Hierarchy.{MOST, Hierarchy}
 use Rattle.hb_hier.specs.Giving.{AllBindersBelow}
 use Rattle.hb_hier.specs.Undoing.{cut}
