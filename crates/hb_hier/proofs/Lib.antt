@@ -3,6 +3,5 @@ pub mod StructureLemmas
 pub mod FaultLemmas
 pub mod GivenLemmas
 pub mod NeedLemmas
-pub mod StoreLemmas
 pub mod EndingLemmas
 pub mod UndoLemmas

@@ -1,6 +1,5 @@
 -- What was given to each carrier, and when a giving is refused.
-use Rattle.std.specs.Prelude.{◌≡◌, ℕ, ◌<◌, Bool, true, false, ◌==◌, ◌&&◌, not, if◌then◌else◌, List, [], ◌∷◌, ◌++◌, length, fold, Option, None, Some, slice_index_or}
-use Rattle.std.specs.List.{list_any}
+use Rattle.std.specs.Prelude.{◌≡◌, ℕ, ◌<◌, if◌then◌else◌, List, [], ◌∷◌, ◌++◌, length, Option, None, Some, slice_index_or}
 use Rattle.hb_base.specs.declared.name_id.NameId.{NameId}
 use Rattle.hb_sets.specs.Set.{Set, In, empty}
 use Rattle.hb_order.specs.declared.ids.StructId.{StructId}
@@ -11,32 +10,8 @@ use Rattle.hb_hier.specs.declared.error.HierRefused.{HierRefused}
 use Rattle.hb_hier.specs.declared.error.HierRefused.TheVariants.{UnknownFactory, Unfinished, MissingMixin, Unmet, NoMemory}
 use Rattle.hb_hier.specs.declared.known.Known.{Known}
 use Rattle.hb_hier.specs.declared.known.Known.TheVariants.{Mixin, Factory, Structure}
-use Rattle.hb_hier.specs.Hierarchy.{Hierarchy, Given, ungiven, known_as, ended, sets, required, provided}
-
--- two constants are the same
-abbrev pub same_bool : Bool → Bool → Bool
-same_bool true b = b
-same_bool false b = not b
-
-abbrev pub same_const : ConstId → ConstId → Bool
-same_const a b = (a.decl == b.decl) && same_bool a.maker b.maker
-
--- the givings at one carrier, in order
-abbrev pub givings_at : List Given → ConstId → List Giving
-givings_at [] k = []
-givings_at (g ∷ gs) k = if same_const g.carrier k then g.giving ∷ givings_at gs k else givings_at gs k
-
--- the carriers, in the order of their first givings
-abbrev pub with_carrier : List ConstId → ConstId → List ConstId
-with_carrier ks k = if list_any (λ other. same_const other k) ks then ks else ks ++ k ∷ []
-
-abbrev pub carriers_of : List Given → List ConstId
-carriers_of gs = fold (λ ks g. with_carrier ks g.carrier) [] gs
-
--- how many binders the givings at a carrier have; none where nothing was given
-abbrev pub binder_count : List Giving → Option ℕ
-binder_count [] = None
-binder_count (g ∷ gs) = Some (length g.binders)
+use Rattle.hb_givings.specs.Givings.{Given, ungiven, givings_at}
+use Rattle.hb_hier.specs.Hierarchy.{Hierarchy, known_as, ended, sets, required, provided}
 
 -- each structure of the binders is declared before the n-th
 abbrev pub BindersBelow : ℕ → List (Option StructId) → Type 0

@@ -1,12 +1,11 @@
 -- A hierarchy: what was declared, ended and given, each as a list in its order.
-use Rattle.std.specs.Prelude.{false, ℕ, ◌<◌, Bool, ◌==◌, List, [], length, map, fold, position, Option, None, Some, slice_get, slice_index_or}
+use Rattle.std.specs.Prelude.{ℕ, ◌<◌, Bool, ◌==◌, List, [], length, map, fold, position, Option, None, Some, slice_get, slice_index_or}
 use Rattle.std.specs.List.{list_any, position_or_len}
 use Rattle.std.specs.Option.{option_map}
 use Rattle.hb_base.specs.declared.name_id.NameId.{NameId}
 use Rattle.hb_sets.specs.Set.{Set, empty, insert, union}
 use Rattle.hb_order.specs.declared.ids.FactoryId.{FactoryId}
-use Rattle.hb_order.specs.Givings.{Giving}
-use Rattle.hb_tree.specs.declared.leaves.ConstId.{ConstId}
+use Rattle.hb_givings.specs.Givings.{Given}
 use Rattle.hb_hier.specs.declared.known.Known.{Known}
 use Rattle.hb_hier.specs.declared.known.Known.TheVariants.{Mixin, Factory, Structure}
 
@@ -25,11 +24,6 @@ pub record Ended : Type 0 where
 pub record Grouped : Type 0 where
   pub name : NameId
   pub mixins : Set
-
--- an instance at a carrier
-pub record Given : Type 0 where
-  pub carrier : ConstId
-  pub giving : Giving
 
 -- the lists, and the one order in which mixins and factories were declared
 pub record Hierarchy : Type 0 where
@@ -72,9 +66,6 @@ ungrouped = record { name = record { 0 = 0 }; mixins = empty }
 
 abbrev pub unended : Ended
 unended = record { factory = record { 0 = 0 }; provided = empty }
-
-abbrev pub ungiven : Given
-ungiven = record { carrier = record { decl = 0; maker = false }; giving = record { binders = []; gives = empty } }
 
 -- the names of its fields; a structure has none
 abbrev pub fields_of : Hierarchy → Known → List NameId

@@ -6,6 +6,4 @@ pub mod Undoing
 -- What the crate's own functions keep.
 pub mod Keeping
 pub mod Kept
-pub mod Pairs
-pub mod LastAt
 pub mod Least

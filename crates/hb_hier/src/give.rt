@@ -6,7 +6,8 @@ ghost use Rattle.hb_order.specs.Heirs.{IsHeir};
 ghost use Rattle.hb_order.specs.Givings.{given, condition, binder};
 ghost use Rattle.hb_hier.specs.declared.known.Known.TheVariants.{Mixin};
 ghost use Rattle.hb_hier.specs.Hierarchy.{IsDeclared, known_as, sets, required, provided};
-ghost use Rattle.hb_hier.specs.Giving.{givings_at, binder_count, BindersBelow, Met, MetAt, IsReady, AllReady, MetIfGiven, AllMetIfGiven, IsFirstUnready, IsFirstUnmet, IsFirstUnmetPair, NewAreMet, giving_fault, provided_or_none, required_or_none, IsGivingAllowed, GivingRefusal, with_giving};
+ghost use Rattle.hb_givings.specs.Givings.{givings_at, binder_count};
+ghost use Rattle.hb_hier.specs.Giving.{BindersBelow, Met, MetAt, IsReady, AllReady, MetIfGiven, AllMetIfGiven, IsFirstUnready, IsFirstUnmet, IsFirstUnmetPair, NewAreMet, giving_fault, provided_or_none, required_or_none, IsGivingAllowed, GivingRefusal, with_giving};
 
 use crate::error::HierRefused;
 use crate::hier::Hier;

@@ -1,11 +1,11 @@
 //! The hierarchy of a session.
 ghost use Rattle.std.specs.Prelude.{◌≡◌, ℕ, ◌<◌, ◌≤◌, [], length, IfOk};
-ghost use Rattle.hb_hier.specs.Hierarchy.{Hierarchy, MOST, nothing};
+ghost use Rattle.hb_hier.specs.Hierarchy.{Hierarchy, MOST, nothing, sets};
 
 use crate::known::Known;
-use crate::records::{Declaration, Ending, Instance, Structure, Tally};
-use hb_sets::MixSet;
-use hb_tree::ConstId;
+use crate::records::{Declaration, Ending, Structure};
+use hb_givings::Givings;
+use hb_joins::Joins;
 use std::alloc::{AllocError, Global};
 use std::marker::Model;
 
@@ -19,10 +19,8 @@ pub struct Hier {
     pub(crate) factories: Vec<Declaration>,
     pub(crate) endings: Vec<Ending>,
     pub(crate) structures: Vec<Structure>,
-    pub(crate) givings: Vec<Instance>,
-    pub(crate) tallies: Vec<Tally>,
-    pub(crate) carriers: Vec<ConstId>,
-    pub(crate) nothing: MixSet,
+    pub(crate) joins: Joins,
+    pub(crate) givings: Givings,
 }
 
 impl Model for Hier {
@@ -43,7 +41,7 @@ impl Model for Hier {
           factories = h.factories.items;
           endings = h.endings.items;
           structures = h.structures.items;
-          givings = h.givings.items;
+          givings = h.givings;
         } };
 
     ghost invariant = { IsKept };
@@ -54,6 +52,8 @@ impl Hier {
     pub fn new(alloc: Global) -> Result<Hier, AllocError>
         ensures { IfOk result (λ h. h ≡ nothing) }
     {
+        let joins = Joins::new(alloc)?;
+        let givings = Givings::new(alloc)?;
         Ok(Hier {
             alloc,
             order: Vec::new(alloc),
@@ -61,10 +61,8 @@ impl Hier {
             factories: Vec::new(alloc),
             endings: Vec::new(alloc),
             structures: Vec::new(alloc),
-            givings: Vec::new(alloc),
-            tallies: Vec::new(alloc),
-            carriers: Vec::new(alloc),
-            nothing: MixSet::empty(),
+            joins,
+            givings,
         })
     }
 
@@ -82,5 +80,13 @@ impl Hier {
         ensures bound { result ≤ MOST }
     {
         self.structures.len() as u16
+    }
+
+    /// The joins of the structures.
+    pub(crate) fn joins(&self) -> &Joins
+        ensures sets { result.now ≡ sets self.now }
+        ensures count { length result.now ≡ length self.now.structures }
+    {
+        &self.joins
     }
 }

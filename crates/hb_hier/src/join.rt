@@ -2,10 +2,11 @@
 ghost use Rattle.std.specs.Prelude.{◌≡◌, ℕ, ◌<◌, ◌↔◌, length, IsTrue, IsNone, IfSome};
 ghost use Rattle.hb_order.specs.Heirs.{IsHeir, IsCommonHeir, IsJoin};
 ghost use Rattle.hb_order.specs.Allowed.{AllAllowed};
+ghost use Rattle.hb_joins.specs.Holding.{structures_with};
 ghost use Rattle.hb_hier.specs.Hierarchy.{sets};
 
 use crate::hier::Hier;
-use hb_order::StructId;
+use hb_order::{MixinId, StructId};
 
 impl Hier {
     /// Whether `a` is an heir of `b`: it has each mixin that `b` has.
@@ -14,7 +15,7 @@ impl Hier {
         requires right { b.0 < length self.now.structures }
         ensures { IsTrue result ↔ IsHeir (sets self.now) a.0 b.0 }
     {
-        self.mix(b).subset(self.mix(a))
+        self.joins().heir(a, b)
     }
 
     /// The join of `a` and `b`: their common heir whose mixins every common heir has. None exactly where
@@ -25,30 +26,21 @@ impl Hier {
         ensures found { IfSome result (λ j. IsJoin (sets self.now) a.0 b.0 j.0) }
         ensures none { IsNone result → (j : ℕ) → ¬ (IsCommonHeir (sets self.now) a.0 b.0 j) }
     {
-        self.structures_are_allowed();
-        for at in 0..self.structures() {
-            let id = StructId(at);
-            if self.is_common_heir(id, a, b) {
-                return Some(id);
-            }
-        }
-        None
+        self.joins().join_of(a, b)
     }
 
-    /// Whether `k` is an heir of both.
-    fn is_common_heir(&self, k: StructId, a: StructId, b: StructId) -> bool
-        requires heir { k.0 < length self.now.structures }
-        requires left { a.0 < length self.now.structures }
-        requires right { b.0 < length self.now.structures }
-        ensures { IsTrue result ↔ IsCommonHeir (sets self.now) a.0 b.0 k.0 }
+    /// The structures that have the mixin, in the order of declaration.
+    pub fn structures_with(&self, m: MixinId) -> &[StructId]
+        requires { m.0 < length self.now.mixins }
+        ensures { result.now ≡ structures_with (sets self.now) m.0 }
     {
-        self.heir(k, a) && self.heir(k, b)
+        self.joins.structures_with(m)
     }
 
     /// The law: each structure was allowed after those before it.
     pub fn structures_are_allowed(&self)
         ensures { AllAllowed (sets self.now) }
     {
-        let _ = &self.structures;
+        self.joins().structures_are_allowed();
     }
 }

@@ -5,7 +5,7 @@ ghost use Rattle.hb_sets.specs.Set.{contains};
 ghost use Rattle.hb_order.specs.Givings.{width, condition, binder};
 ghost use Rattle.hb_order.specs.Needs.{Takes, IsNeed};
 ghost use Rattle.hb_hier.specs.Hierarchy.{sets};
-ghost use Rattle.hb_hier.specs.Giving.{givings_at};
+ghost use Rattle.hb_givings.specs.Givings.{givings_at};
 ghost use Rattle.hb_hier.specs.Least.{HasNeed, IsFound, IsNeedBelow, IsFoundAnd, IsFoundAfter};
 
 use crate::hier::Hier;

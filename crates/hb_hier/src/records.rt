@@ -1,8 +1,7 @@
-//! What was declared, ended and given, as it is kept.
+//! What was declared and ended, as it is kept.
 use hb_base::NameId;
-use hb_order::{FactoryId, StructId};
+use hb_order::FactoryId;
 use hb_sets::MixSet;
-use hb_tree::ConstId;
 use std::marker::Model;
 
 /// A mixin or a factory, with the mixins that it requires and the names of its fields.
@@ -61,32 +60,4 @@ impl Model for Structure {
     ghost coded = { Prim.hlevel (codes, set_code) };
 
     ghost view = { λ s. record { name = s.name; mixins = s.mixins } };
-}
-
-/// An instance at a carrier: what it asks of the carrier's arguments, and what it gives.
-#[derive(Drop)]
-pub(crate) struct Instance {
-    pub(crate) carrier: ConstId,
-    pub(crate) binders: Vec<Option<StructId>>,
-    pub(crate) gives: MixSet,
-}
-
-impl Model for Instance {
-    ghost use Rattle.hb_hier.specs.Hierarchy.{Given};
-    ghost use Rattle.std.specs.Coded.{codes};
-    ghost use Rattle.hb_sets.specs.Set.{set_code};
-
-    ghost Value = { Given };
-
-    ghost coded = { Prim.hlevel (codes, set_code) };
-
-    ghost view = { λ g.
-        record { carrier = g.carrier; giving = record { binders = g.binders.items; gives = g.gives } } };
-}
-
-/// What stands after an instance: what its carrier was given, and how many carriers there are.
-#[derive(Drop)]
-pub(crate) struct Tally {
-    pub(crate) given: MixSet,
-    pub(crate) carriers: usize,
 }

@@ -81,6 +81,26 @@ fn joins_are_as_worked_out(rt: HostRuntime) -> Result<(), HierRefused> {
     Ok(())
 }
 
+/// How many structures have the mixin, and the last of them.
+fn holders(h: &Hier, m: u16) -> (usize, Option<StructId>) {
+    if m < h.mixins() {
+        let found = h.structures_with(MixinId(m));
+        (found.len(), found.last().copied())
+    } else {
+        (0, None)
+    }
+}
+
+#[test]
+fn mixins_are_held_as_worked_out(rt: HostRuntime) -> Result<(), HierRefused> {
+    let mut h = Hier::new(rt.alloc())?;
+    small(&mut h)?;
+    for (m, count, last) in [(0, 3, 3), (1, 2, 2), (2, 1, 2), (3, 1, 3)] {
+        assert_eq!(rt; holders(&h, m), (count, Some(StructId(last))), "of {m}");
+    }
+    Ok(())
+}
+
 #[test]
 fn the_1025th_mixin_is_refused(rt: HostRuntime) -> Result<(), HierRefused> {
     let mut h = Hier::new(rt.alloc())?;

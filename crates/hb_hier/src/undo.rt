@@ -1,13 +1,11 @@
 //! Marks, and the way back to them.
-ghost use Rattle.std.specs.Prelude.{◌≡◌, ◌≤◌, ◌<◌, ◌-◌, ◌^◌, length, take, filter, slice_index_or};
+ghost use Rattle.std.specs.Prelude.{◌≡◌, ◌≤◌, length, take, filter};
 ghost use Rattle.hb_hier.specs.Giving.{AllBindersBelow};
-ghost use Rattle.hb_hier.specs.Hierarchy.{sets};
-ghost use Rattle.hb_hier.specs.Keeping.{untallied};
 ghost use Rattle.hb_hier.specs.Undoing.{is_kept, cut, mark_of};
 
 use crate::hier::Hier;
 use crate::known::{HierMark, Known};
-use crate::records::{Ending, Tally};
+use crate::records::Ending;
 
 impl Hier {
     /// The lengths of the lists.
@@ -19,7 +17,7 @@ impl Hier {
             factories: self.factories.len() as u16,
             ended: ending_count(&self.endings) as u16,
             structures: self.structures.len() as u16,
-            givings: self.givings.len() as u32,
+            givings: self.givings.len(),
         }
     }
 
@@ -30,15 +28,13 @@ impl Hier {
         requires asked { AllBindersBelow mark.structures (take mark.givings self.old.givings) }
         ensures { self.new ≡ cut self.old mark }
     {
-        let carriers = carriers_before(&self.tallies, mark.givings as usize);
         keep_order(&mut self.order, mark);
         self.mixins.truncate(mark.mixins as usize);
         self.factories.truncate(mark.factories as usize);
         self.endings.truncate(mark.ended as usize);
         self.structures.truncate(mark.structures as usize);
-        self.givings.truncate(mark.givings as usize);
-        self.tallies.truncate(mark.givings as usize);
-        self.carriers.truncate(carriers);
+        self.joins.cut(mark.structures);
+        self.givings.cut(mark.givings);
     }
 }
 
@@ -65,17 +61,4 @@ fn ending_count(endings: &Vec<Ending>) -> usize
     ensures { result ≡ length endings.now.items }
 {
     endings.len()
-}
-
-/// How many carriers there were after the first `givings` instances.
-fn carriers_before(tallies: &Vec<Tally>, givings: usize) -> usize
-    requires { givings ≤ length tallies.now.items }
-    ensures none { givings ≡ 0 → result ≡ 0 }
-    ensures some { 0 < givings → result ≡ (slice_index_or tallies.now.items (givings - 1) untallied).carriers }
-{
-    if givings == 0 {
-        return 0;
-    }
-    let tally = &tallies[givings - 1];
-    tally.carriers
 }

@@ -1,7 +1,8 @@
 use Rattle.std.proofs.Common.{refl, sym, subst, ℕ, ◌∙◌, ap}
 use Rattle.hb_sets.specs.Set.{Set}
 use Rattle.hb_hier.specs.Hierarchy.{sets}
-use Rattle.hb_hier.specs.Giving.{givings_at, AllReady, NewAreMet, provided_or_none, required_or_none}
+use Rattle.hb_givings.specs.Givings.{givings_at}
+use Rattle.hb_hier.specs.Giving.{AllReady, NewAreMet, provided_or_none, required_or_none}
 use Rattle.hb_hier.proofs.hier.Hier.check_giving.Goals as goal
 
 pub returns-clause-allowed : goal.returns-clause-allowed

@@ -1,10 +1,13 @@
-use Rattle.std.proofs.Common.{arith, sym, ◌∙◌}
-use Rattle.hb_hier.proofs.GivenLemmas.{condition-first, condition-none}
+use Rattle.std.proofs.Common.{length, sym, subst}
+use Rattle.hb_order.specs.Givings.{condition}
+use Rattle.hb_givings.specs.Givings.{givings_at}
+use Rattle.hb_hier.specs.Hierarchy.{Hierarchy}
+use Rattle.hb_hier.specs.Giving.{BindersBelow}
+use Rattle.hb_hier.proofs.GivenLemmas.{asked-below}
 use Rattle.hb_hier.proofs.hier.Hier.condition.Goals as goal
 
-pub returns-then-gives_at-clause-first : goal.returns-then-gives_at-clause-first
-returns-then-gives_at-clause-first c =
-    c.binders_at.ensures.value ∙ sym (condition-first c.args.self.now.givings c.args.carrier c.args.m.0 c.loop-at.at (omega arith) (sym c.if-gives_at.ensures) c.loop-at.invariant)
-
-pub returns-clause-first : goal.returns-clause-first
-returns-clause-first c = sym (condition-none c.args.self.now.givings c.args.carrier c.args.m.0 c.loop-at.at (omega arith) c.loop-at.invariant)
+pub returns-clause-declared : goal.returns-clause-declared
+returns-clause-declared c =
+    subst (BindersBelow (length c.args.self.now.structures)) (sym c.condition.ensures)
+    (subst (λ (h : Hierarchy). BindersBelow (length h.structures) (condition (givings_at c.self.inside.givings c.args.carrier) c.args.m.0)) c.self.view_is
+    (asked-below (length c.self.inside.structures.items) c.self.inside.givings c.args.carrier c.self.invariant.asked c.args.m.0))

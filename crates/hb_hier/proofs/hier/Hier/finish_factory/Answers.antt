@@ -20,11 +20,7 @@ invariant_of-self-2 c =
       few_mixins = old.few_mixins;
       few_factories = old.few_factories;
       few_structures = old.few_structures;
-      few_givings = old.few_givings;
-      allowed = old.allowed;
-      none_given = old.none_given;
-      tallied = old.tallied;
-      carried = old.carried;
+      joined = old.joined;
       asked = old.asked;
       ended_once = distinct-after c.self.inside.endings.items _ _ c.in_ok-push.ensures.items old.ended_once
           (omega (arith, subst (λ (h : Hierarchy). c.args.f.0 < length h.factories) (sym view) c.requires, old.few_factories))

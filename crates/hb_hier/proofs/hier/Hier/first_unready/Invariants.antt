@@ -1,7 +1,8 @@
 use Rattle.std.proofs.Common.{ℕ, ◌<◌}
 use Rattle.hb_sets.specs.Set.{In}
 use Rattle.hb_hier.specs.Hierarchy.{sets}
-use Rattle.hb_hier.specs.Giving.{givings_at, IsReady}
+use Rattle.hb_givings.specs.Givings.{givings_at}
+use Rattle.hb_hier.specs.Giving.{IsReady}
 use Rattle.hb_hier.proofs.hier.Hier.first_unready.Given as goal
 
 abbrev pub invariant-loop-m : goal.invariant-loop-m

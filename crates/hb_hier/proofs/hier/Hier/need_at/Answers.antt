@@ -1,6 +1,6 @@
 use Rattle.std.proofs.Common.{arith, ℕ, subst}
 use Rattle.hb_hier.specs.Hierarchy.{sets}
-use Rattle.hb_hier.specs.Giving.{givings_at}
+use Rattle.hb_givings.specs.Givings.{givings_at}
 use Rattle.hb_hier.specs.Least.{IsFoundBelow}
 use Rattle.hb_hier.proofs.NeedLemmas.{found-after, found-all}
 use Rattle.hb_hier.proofs.hier.Hier.need_at.Goals as goal

@@ -1,6 +1,6 @@
 use Rattle.std.proofs.Common.{length}
 use Rattle.hb_hier.specs.Hierarchy.{sets}
-use Rattle.hb_hier.specs.Giving.{givings_at}
+use Rattle.hb_givings.specs.Givings.{givings_at}
 use Rattle.hb_hier.specs.Least.{IsFoundBelow, IsNeedBelow}
 use Rattle.hb_hier.proofs.hier.Hier.need_at.Given as goal
 

@@ -1,6 +1,6 @@
 use Rattle.std.proofs.Common.{ℕ, ◌<◌}
 use Rattle.hb_hier.specs.Hierarchy.{sets}
-use Rattle.hb_hier.specs.Giving.{givings_at}
+use Rattle.hb_givings.specs.Givings.{givings_at}
 use Rattle.hb_hier.specs.Least.{HasNeed}
 use Rattle.hb_hier.proofs.hier.Hier.takes.Given as goal
 

@@ -1,9 +1,9 @@
-use Rattle.std.proofs.Common.{◌≤◌, length, take, sym, ap, ◌∙◌, subst, arith}
-use Rattle.std.proofs.lemmas.List.{length-take}
+use Rattle.std.proofs.Common.{take, sym, ap, ◌∙◌, subst}
 use Rattle.hb_hier.specs.Hierarchy.{MOST, Hierarchy}
 use Rattle.hb_hier.specs.Giving.{AllBindersBelow}
 use Rattle.hb_hier.specs.Undoing.{cut}
-use Rattle.hb_hier.proofs.UndoLemmas.{few-take, allowed-cut, tallied-cut, carried-cut, below-cut, distinct-cut}
+use Rattle.hb_hier.proofs.StructureLemmas.{joined-take}
+use Rattle.hb_hier.proofs.UndoLemmas.{few-take, below-cut, distinct-cut}
 use Rattle.hb_hier.proofs.hier.Hier.undo.Goals as goal
 
 pub invariant_of-self : goal.invariant_of-self
@@ -12,19 +12,13 @@ invariant_of-self c =
     let view = c.self.view_is in
     let n = c.args.mark.givings in
     let asked = subst (λ (h : Hierarchy). AllBindersBelow c.args.mark.structures (take c.args.mark.givings h.givings)) (sym view) c.requires.asked in
-    let within = subst (λ (h : Hierarchy). c.args.mark.givings ≤ length h.givings) (sym view) c.requires.givings in
     record {
       few_mixins = few-take c.args.mark.mixins MOST c.self.inside.mixins.items _ c.truncate.ensures.items old.few_mixins;
       few_factories = few-take c.args.mark.factories MOST c.self.inside.factories.items _ c.truncate-2.ensures.items old.few_factories;
       few_structures = few-take c.args.mark.structures MOST c.self.inside.structures.items _ c.truncate-4.ensures.items old.few_structures;
       ended_once = distinct-cut c.self.inside.endings.items _ c.args.mark.ended c.truncate-3.ensures.items old.ended_once;
-      few_givings = omega (arith, ap length c.truncate-5.ensures.items, length-take n c.self.inside.givings.items, old.few_givings);
-      allowed = allowed-cut c.self.inside.structures.items _ c.args.mark.structures c.truncate-4.ensures.items old.allowed;
-      none_given = old.none_given;
-      tallied = tallied-cut c.self.inside.givings.items _ c.self.inside.tallies.items _ n c.truncate-5.ensures.items c.truncate-6.ensures.items old.tallied;
-      carried = carried-cut c.self.inside.givings.items _ c.self.inside.tallies.items c.self.inside.carriers.items _ n c.carriers_before-carriers.result old.tallied old.carried within
-          c.carriers_before-carriers.ensures.none c.carriers_before-carriers.ensures.some c.truncate-5.ensures.items c.truncate-7.ensures.items;
-      asked = below-cut c.self.inside.structures.items _ c.self.inside.givings.items _ c.args.mark.structures n c.truncate-4.ensures.items c.truncate-5.ensures.items old.asked asked;
+      joined = joined-take c.self.inside.structures.items _ c.self.inside.joins c.cut.new.self c.args.mark.structures c.truncate-4.ensures.items c.cut.ensures old.joined;
+      asked = below-cut c.self.inside.structures.items _ c.self.inside.givings _ c.args.mark.structures n c.truncate-4.ensures.items c.cut-2.ensures old.asked asked;
     }
 
 pub returns : goal.returns
@@ -35,6 +29,6 @@ returns c =
       factories = c.truncate-2.ensures.items i;
       endings = c.truncate-3.ensures.items i;
       structures = c.truncate-4.ensures.items i;
-      givings = c.truncate-5.ensures.items i;
+      givings = c.cut-2.ensures i;
     })
     ∙ ap (λ (h : Hierarchy). cut h c.args.mark) c.self.view_is

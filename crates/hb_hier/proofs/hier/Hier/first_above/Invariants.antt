@@ -1,8 +1,0 @@
-use Rattle.std.proofs.Common.{ℕ, ◌<◌}
-use Rattle.hb_sets.specs.Set.{Inside}
-use Rattle.hb_order.specs.Heirs.{mix}
-use Rattle.hb_hier.specs.Hierarchy.{sets}
-use Rattle.hb_hier.proofs.hier.Hier.first_above.Given as goal
-
-abbrev pub invariant-loop-at : goal.invariant-loop-at
-invariant-loop-at l = (k : ℕ) → k < l.at → ¬ (Inside l.set (mix (sets l.self) k))

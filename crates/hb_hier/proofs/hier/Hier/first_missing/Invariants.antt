@@ -1,7 +1,0 @@
-use Rattle.std.proofs.Common.{ℕ, ◌<◌, length}
-use Rattle.hb_order.specs.Allowed.{NoneMissingWith}
-use Rattle.hb_hier.specs.Hierarchy.{sets}
-use Rattle.hb_hier.proofs.hier.Hier.first_missing.Given as goal
-
-abbrev pub invariant-loop-at : goal.invariant-loop-at
-invariant-loop-at l = (c : ℕ) → c < l.at → NoneMissingWith (sets l.self) l.set c (length l.self.structures)
