@@ -1,15 +1,12 @@
 -- One more item of a list is changed.
-use Rattle.std.proofs.Common.{◌≡◌, ℕ, ◌+◌, ◌<◌, List, length, get_or, refl, sym, ◌∙◌, subst, inl, inr, arith}
+use Rattle.std.proofs.Common.{◌≡◌, ℕ, ◌+◌, ◌<◌, List, length, get_or, sym, ◌∙◌, subst, inl, inr, arith}
 use Rattle.std.proofs.Common.{set, get_or-set_same, get_or-set_other}
 use Rattle.std.proofs.lemmas.Bool.{cases_lt}
-use Rattle.std.proofs.lemmas.List.{length-set}
+use Rattle.std.proofs.lemmas.List.{length-set, get_or_read}
 use Rattle.hb_joins.specs.Changes.{IsChanged}
 
 module _ {X : Type 0} (R : ℕ → X → X → Type 0) (d : X) where
-  pub changed-none : (xs : List X) → IsChanged R d xs xs 0
-  changed-none xs = record { long = refl; done = λ k lt. absurd (omega (arith, lt)); rest = λ k le. refl }
-
-  pub changed-more : (old new : List X) (n : ℕ) (x : X) → IsChanged R d old new n → n < length new → R n (get_or old n d) x → IsChanged R d old (set new n x) (n + 1)
+  changed-more : (old new : List X) (n : ℕ) (x : X) → IsChanged R d old new n → n < length new → R n (get_or old n d) x → IsChanged R d old (set new n x) (n + 1)
   changed-more old new n x so lt is = record {
     long = length-set new n x ∙ so.long;
     done = λ k before. elim (cases_lt k n) [
@@ -22,10 +19,7 @@ module _ {X : Type 0} (R : ℕ → X → X → Type 0) (d : X) where
       at : (k : ℕ) → n ≡ k → R k (get_or old k d) (get_or (set new n x) k d)
       at k e = subst (λ (i : ℕ). R i (get_or old i d) (get_or (set new n x) i d)) e (subst (R n (get_or old n d)) (sym (get_or-set_same new n x d lt)) is)
 
-  -- from what stands there before the change
-  pub changed-step : (old new : List X) (n : ℕ) (x : X) → IsChanged R d old new n → n < length new → R n (get_or new n d) x → IsChanged R d old (set new n x) (n + 1)
-  changed-step old new n x so lt is = changed-more old new n x so lt (subst (λ (y : X). R n y x) (so.rest n (omega arith)) is)
-
-  -- past the end there is nothing to change
-  pub changed-all : (old new : List X) (n m : ℕ) → IsChanged R d old new n → n ≡ m → IsChanged R d old new m
-  changed-all old new n m so e = subst (IsChanged R d old new) e so
+  -- the item y that was read at n became x
+  pub changed-read : (old new : List X) (n : ℕ) (y x : X) → IsChanged R d old new n → n < length new → y ≡ get_or new n y → R n y x → IsChanged R d old (set new n x) (n + 1)
+  changed-read old new n y x so lt read is =
+      changed-more old new n x so lt (subst (λ (z : X). R n z x) (get_or_read new n y lt read d ∙ so.rest n (omega arith)) is)

@@ -2,7 +2,7 @@
 use Rattle.std.proofs.Common.{◌≡◌, ℕ, zero, suc, ◌+◌, ◌<◌, ◌≤◌, Bool, true, false, cond, nat_lt, min, List, [], ◌∷◌, ◌++◌, length, take, refl, sym, ap, ◌∙◌, inl, inr, arith}
 use Rattle.std.proofs.lemmas.Bool.{cases_lt}
 use Rattle.std.proofs.lemmas.Bool.Decides.{nat_tests}
-use Rattle.std.proofs.lemmas.List.{length_push, length-take, get_or-take, append-nil, ext_get_or, get_or_past, get_or_append_left, get_or_push}
+use Rattle.std.proofs.lemmas.List.{length_push, length-take, get_or-take, append-nil, ext_get_or}
 use Rattle.std.proofs.lemmas.List.Elements.{filter-append}
 use Rattle.hb_sets.specs.Set.{Set, contains, empty}
 use Rattle.hb_order.specs.declared.ids.StructId.{StructId}
@@ -95,10 +95,6 @@ with-take h m k =
     ∙ sym (below-along h (take k h) m (min k (length h)) (λ s lt. get_or-take k h s empty (omega (arith, lt))))
     ∙ ap (structures_below (take k h) m) (sym (length-take k h))
 
--- no structures, no holders
-pub held-none : (lists : List (List StructId)) → ((m : ℕ) → held lists m ≡ []) → AreHeld [] lists
-held-none lists none m lt = none m
-
 pub all-before : (h : List Set) (lists : List (List StructId)) → AreHeld h lists → AllBefore (length h) lists
 all-before h lists are m lt = ap (held_before (length h)) (are m lt) ∙ with-before h m ∙ sym (are m lt)
 
@@ -114,15 +110,11 @@ pub held-cut : (h h' : List Set) (old new : List (List StructId)) (n : ℕ) → 
 held-cut h h' old new n is are cut m lt =
     cut m lt ∙ ap (held_before n) (are m lt) ∙ with-take h m n ∙ ap (λ l. structures_with l m) (sym is)
 
--- a list without structures more
-pub none-push : (lists : List (List StructId)) → ((m : ℕ) → held lists m ≡ []) → (m : ℕ) → held (lists ++ [] ∷ []) m ≡ []
-none-push lists none m = elim (cases_lt m (length lists)) [
-  | inl old ↦ get_or_append_left lists ([] ∷ []) [] m old ∙ none m
-  | inr from ↦ elim (cases_lt (length lists) m) [
-    | inl past ↦ get_or_past (lists ++ [] ∷ []) m [] (omega (arith, length_push lists [], past))
-    | inr at ↦ get_or_push lists [] [] m (omega (arith, from, at))
-  ]
-]
+-- what was added is cut, and the lists are as they were
+pub unadded : (n : ℕ) (old between new : List (List StructId)) → length old ≡ 1024 → length between ≡ 1024 → AllBefore n old → ((m : ℕ) → held_before n (held between m) ≡ held_before n (held old m)) → IsChanged (λ m was is. is ≡ held_before n was) [] between new (length between) → new ≡ old
+unadded n old between new long long' before same cut = ext_get_or [] new old (cut.long ∙ long' ∙ sym long) (λ m lt.
+    let small : m < 1024 = omega (arith, cut.long, long', lt) in
+    cut.done m (omega (arith, long', small)) ∙ same m ∙ before m small)
 
 -- what was added goes with what is cut
 before-after : (s : StructId) (x : Set) (m : ℕ) (list : List StructId) → held_before s.0 (held_after s x m list) ≡ held_before s.0 list
@@ -144,12 +136,3 @@ earlier-kept s x old new n so m = elim (cases_lt m n) [
   | inl done ↦ ap (held_before s.0) (so.done m done) ∙ before-after s x m (held old m)
   | inr rest ↦ ap (held_before s.0) (so.rest m rest)
 ]
-
--- what was added is cut, and the lists are as they were
-pub unadded : (n : ℕ) (old between new : List (List StructId)) → length old ≡ 1024 → length between ≡ 1024 → AllBefore n old → ((m : ℕ) → held_before n (held between m) ≡ held_before n (held old m)) → IsChanged (λ m was is. is ≡ held_before n was) [] between new (length between) → new ≡ old
-unadded n old between new long long' before same cut = ext_get_or [] new old (cut.long ∙ long' ∙ sym long) (λ m lt.
-    let small : m < 1024 = omega (arith, cut.long, long', lt) in
-    cut.done m (omega (arith, long', small)) ∙ same m ∙ before m small)
-
-pub cut-before : (n : ℕ) (old new : List (List StructId)) → length old ≡ 1024 → IsChanged (λ m was is. is ≡ held_before n was) [] old new (length old) → IsCutBefore n old new
-cut-before n old new long cut m lt = cut.done m (omega (arith, long, lt))

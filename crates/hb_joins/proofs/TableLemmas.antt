@@ -1,5 +1,5 @@
 -- The table of joins, when a structure is added or the last ones are cut.
-use Rattle.std.proofs.Common.{◌≡◌, ℕ, ◌+◌, ◌<◌, ◌≤◌, Bool, true, false, true≢false, cond, nat_lt, min, List, [], ◌∷◌, ◌++◌, length, take, Option, None, Some, IsNone, IfSome, refl, sym, ap, ◌∙◌, subst, inl, inr, arith}
+use Rattle.std.proofs.Common.{◌≡◌, ℕ, ◌+◌, ◌<◌, ◌≤◌, Bool, true, false, true≢false, cond, nat_lt, min, List, [], ◌∷◌, ◌++◌, length, take, Option, None, Some, refl, sym, ap, ◌∙◌, subst, inl, inr, arith}
 use Rattle.std.proofs.lemmas.Bool.{cases_lt}
 use Rattle.std.proofs.lemmas.Bool.Decides.{nat_tests}
 use Rattle.std.proofs.lemmas.List.{length_push, length-take, get_or-take, get_or_append_left, get_or_push}
@@ -20,23 +20,7 @@ turned-heir h a b j common = record { declared = common.declared; left = common.
 pub turned-join : (h : List Set) (a b j : ℕ) → IsJoin h a b j → IsJoin h b a j
 turned-join h a b j join = record { heir = turned-heir h a b j join.heir; least = λ k common. join.least k (turned-heir h b a k common) }
 
--- what an entry says
-pub entry-found : (h : List Set) (a b : ℕ) (e : Option StructId) → IsEntry h a b e → IfSome e (λ j. IsJoin h a b j.0)
-entry-found h a b None is = tt
-entry-found h a b (Some j) is = is
-
-pub entry-none : (h : List Set) (a b : ℕ) (e : Option StructId) → IsEntry h a b e → IsNone e → (j : ℕ) → ¬ (IsCommonHeir h a b j)
-entry-none h a b None is none = is
-entry-none h a b (Some j) is none = absurd cc
-
-pub turned-entry : (h : List Set) (a b : ℕ) (e : Option StructId) → IsEntry h a b e → IsEntry h b a e
-turned-entry h a b None is = λ j common. is j (turned-heir h b a j common)
-turned-entry h a b (Some j) is = turned-join h a b j.0 is
-
 module _ (h : List Set) (x : Set) where
-  more : List Set
-  more = h ++ x ∷ []
-
   common-of_more : (a b k : ℕ) → a < length h → b < length h → k < length h → IsCommonHeir (h ++ x ∷ []) a b k → IsCommonHeir h a b k
   common-of_more a b k la lb lk common = record { declared = lk; left = heir-of_more h x k a lk la common.left; right = heir-of_more h x k b lk lb common.right }
 
