@@ -1,4 +1,5 @@
 -- What public contracts rest on.
 pub mod Maps
+pub mod Carriers
 -- What the crate's own functions keep.
 pub mod Kept

@@ -1,10 +1,14 @@
 //! The tables of a session.
 ghost use Rattle.std.specs.Prelude.{◌≡◌, ◌<◌, ◌-◌, ◌^◌, ◌++◌, ◌∷◌, [], None, length, IfOk, OnOk, OnErr};
+ghost use Rattle.std.specs.Option.{option_map};
 ghost use Rattle.indexmap.specs.IndexMap.{get};
+ghost use Rattle.hb_tree.specs.Tree.{const};
+ghost use Rattle.hb_term.specs.Meaning.{tree};
 ghost use Rattle.hb_tables.specs.Maps.{Maps, none, records_of, structure_of, coercion_of, entry_of, mixin_of, operation_of, builder_of, with_structure, mark_of, cut};
 
 use crate::marks::TablesMark;
 use hb_order::{FactoryId, MixinId, StructId};
+use hb_term::Term;
 use hb_tree::{ConstId, RecId};
 use indexmap::IndexMap;
 use std::alloc::{AllocError, Global};
@@ -79,6 +83,13 @@ impl Tables {
         ensures { result ≡ coercion_of self.now a b }
     {
         self.coercions.get(&(a, b)).copied()
+    }
+
+    /// The coercion from `a` to `b` as a term. None exactly where none was added, as where `a` is `b`.
+    pub fn path(&self, a: StructId, b: StructId) -> Result<Option<Term>, AllocError>
+        ensures { IfOk result (λ t. option_map tree t ≡ option_map const (coercion_of self.now a b)) }
+    {
+        Ok(self.coercion(a, b).map(Term::Const))
     }
 
     /// The constant of the instance of the structure at the carrier. None exactly where none was added.
