@@ -16,8 +16,6 @@ mod records;
 mod sets;
 mod store;
 mod structure;
-#[cfg(test)]
-mod tests;
 mod undo;
 
 pub use error::HierRefused;
