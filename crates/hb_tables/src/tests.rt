@@ -1,8 +1,8 @@
-//! One pair or two of each table, worked out by hand.
+//! Coercions, a path and two instances, worked out by hand.
 use crate::Tables;
-use hb_order::{FactoryId, MixinId, StructId};
+use hb_order::StructId;
 use hb_term::Term;
-use hb_tree::{ConstId, RecId};
+use hb_tree::ConstId;
 use std::alloc::{AllocError, Global};
 
 /// The constant declared at the place, or the maker of the record declared there.
@@ -84,74 +84,5 @@ fn distinct(alloc: Global) -> Result<bool, AllocError> {
 #[test]
 fn a_maker_and_a_constant_are_two_carriers(rt: HostRuntime) -> Result<(), AllocError> {
     assert!(rt; distinct(rt.alloc())?);
-    Ok(())
-}
-
-/// Gives mixin 3 to a constant.
-fn mixed(alloc: Global) -> Result<bool, AllocError> {
-    let mut t = Tables::new(alloc)?;
-    let carrier = constant(9, false);
-    if t.mark().mixins < u32::MAX && t.mixin(carrier, MixinId(3)).is_none() {
-        t.add_mixin(carrier, MixinId(3), constant(80, false))?;
-    }
-    let given = place(t.mixin(carrier, MixinId(3)));
-    let other = place(t.mixin(carrier, MixinId(4)));
-    Ok(given == 80 && other == 0)
-}
-
-#[test]
-fn a_mixin_is_found_at_its_carrier(rt: HostRuntime) -> Result<(), AllocError> {
-    assert!(rt; mixed(rt.alloc())?);
-    Ok(())
-}
-
-/// Adds an operation of structure 4.
-fn operated(alloc: Global) -> Result<bool, AllocError> {
-    let mut t = Tables::new(alloc)?;
-    let operation = constant(9, false);
-    if t.mark().operations < u32::MAX && t.operation(operation).is_none() {
-        t.add_operation(operation, StructId(4))?;
-    }
-    let found = t.operation(operation) == Some(StructId(4));
-    Ok(found && t.operation(constant(9, true)).is_none())
-}
-
-#[test]
-fn an_operation_is_that_of_its_structure(rt: HostRuntime) -> Result<(), AllocError> {
-    assert!(rt; operated(rt.alloc())?);
-    Ok(())
-}
-
-/// Adds what builds mixin 3 for factory 5.
-fn built(alloc: Global) -> Result<bool, AllocError> {
-    let mut t = Tables::new(alloc)?;
-    if t.mark().builders < u32::MAX && t.builder(FactoryId(5), MixinId(3)).is_none() {
-        t.add_builder(FactoryId(5), MixinId(3), constant(80, false))?;
-    }
-    let found = place(t.builder(FactoryId(5), MixinId(3)));
-    let turned = place(t.builder(FactoryId(3), MixinId(5)));
-    Ok(found == 80 && turned == 0)
-}
-
-#[test]
-fn a_builder_is_that_of_its_factory_and_mixin(rt: HostRuntime) -> Result<(), AllocError> {
-    assert!(rt; built(rt.alloc())?);
-    Ok(())
-}
-
-/// Adds the records of structure 4.
-fn recorded(alloc: Global) -> Result<bool, AllocError> {
-    let mut t = Tables::new(alloc)?;
-    let is_new = t.records(StructId(4)).is_none() && t.structure_of(RecId(7)).is_none();
-    if is_new && t.mark().structures < u32::MAX {
-        t.add_structure(StructId(4), RecId(6), RecId(7))?;
-    }
-    let found = t.records(StructId(4)) == Some((RecId(6), RecId(7)));
-    Ok(found && t.structure_of(RecId(7)) == Some(StructId(4)) && t.structure_of(RecId(6)).is_none())
-}
-
-#[test]
-fn a_structure_is_found_by_its_package(rt: HostRuntime) -> Result<(), AllocError> {
-    assert!(rt; recorded(rt.alloc())?);
     Ok(())
 }
