@@ -1,9 +1,9 @@
 //! Comparison of terms.
-ghost use Rattle.std.specs.Prelude.{◌≡◌, ◌↔◌, IsTrue};
+ghost use Rattle.std.specs.Prelude.{◌≡◌, ◌↔◌, IfOk, IsTrue};
 ghost use Rattle.hb_tree.specs.Tree.{Tree};
 ghost use Rattle.hb_term.specs.Meaning.{tree};
 ghost use Rattle.hb_calculus.specs.Budget.{budget};
-ghost use Rattle.hb_calculus.specs.Conversion.{IsSortBelow, Ordered};
+ghost use Rattle.hb_calculus.specs.Conversion.{Convertible, IsSortBelow, Ordered};
 ghost use Rattle.hb_convert.specs.Answers.{ConvertAnswer, BelowAnswer, IsYes};
 
 use crate::verdict::Verdict;
@@ -12,7 +12,11 @@ use hb_env::Env;
 use hb_quick::looks_convertible;
 use hb_reduce::{ReduceRefused, nf};
 use hb_term::{Scoped, Sort, Term};
-use std::alloc::Global;
+use std::alloc::{AllocError, Global};
+
+/// With a budget of fewer steps normal forms are made at once: they cost no more than a look, and such a
+/// budget is given to see what spends it.
+const FEWEST_STEPS: u64 = 1_000;
 
 /// Whether the terms are convertible (Rocq manual, "Conversion rules"). Yes only where they are; No only
 /// where neither exceeds the limits on the way to its normal form and the normal forms differ. `Spent`
@@ -30,7 +34,7 @@ pub fn convertible(
     if are_same(a, b) {
         return Ok(Verdict::Yes);
     }
-    let found = looks_convertible(alloc, env, a, b, limits)?;
+    let found = are_alike(alloc, env, a, b, limits)?;
     if found {
         return Ok(Verdict::Yes);
     }
@@ -59,7 +63,7 @@ pub fn below(
     if are_same(a, b) {
         return Ok(Verdict::Yes);
     }
-    let found = looks_convertible(alloc, env, a, b, limits)?;
+    let found = are_alike(alloc, env, a, b, limits)?;
     if found {
         return Ok(Verdict::Yes);
     }
@@ -69,6 +73,22 @@ pub fn below(
         return Ok(Verdict::Yes);
     }
     Ok(Verdict::No)
+}
+
+/// Whether a cheap look finds the terms convertible, where the budget is large enough for one.
+fn are_alike(
+    alloc: Global,
+    env: &Env,
+    a: &Scoped,
+    b: &Scoped,
+    limits: &Limits,
+) -> Result<bool, AllocError>
+    ensures { IfOk result (λ y. IsTrue y → Convertible env.now (tree a.now.term) (tree b.now.term)) }
+{
+    if limits.steps < FEWEST_STEPS {
+        return Ok(false);
+    }
+    looks_convertible(alloc, env, a, b, limits)
 }
 
 /// Whether both are the same term.

@@ -1,6 +1,6 @@
 //! Environments.
 ghost use Rattle.std.specs.Prelude.{◌≡◌, ◌-◌, ◌≤◌, ◌<◌, ◌↔◌, false, [], ◌∷◌, ◌++◌, length, take, slice_get, cond, Some, None, IfOk, IfSome, IsNone, IfErr, OnOk, OnErr, option_map};
-ghost use Rattle.hb_calculus.specs.Declarations.{names, IsIn, body_in};
+ghost use Rattle.hb_calculus.specs.Declarations.{names, IsIn, body_in, node_count};
 ghost use Rattle.hb_calculus.specs.Telescopes.{type_in};
 ghost use Rattle.hb_term.specs.Meaning.{tree};
 ghost use Rattle.hb_calculus.specs.Scope.{IsScopedDecl};
@@ -81,6 +81,13 @@ impl Env {
         ensures valid { IsEnvironment self.now }
     {
         self.decls.len() as u32
+    }
+
+    /// The nodes of all terms, as written out.
+    pub fn nodes(&self) -> u64
+        ensures { result ≡ node_count self.now }
+    {
+        self.nodes
     }
 
     /// What the name stands for. `None` exactly where no declaration has it.

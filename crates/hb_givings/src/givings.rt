@@ -1,7 +1,7 @@
 //! The instances in order, with what is looked up by carrier and by mixin.
-ghost use Rattle.std.specs.Prelude.{◌≡◌, ◌<◌, ◌^◌, [], length, IfOk};
+ghost use Rattle.std.specs.Prelude.{◌≡◌, ◌<◌, ◌^◌, [], length, slice_index_or, IfOk};
 ghost use Rattle.hb_order.specs.Givings.{given, condition};
-ghost use Rattle.hb_givings.specs.Givings.{givings_at, carriers_of, binder_count};
+ghost use Rattle.hb_givings.specs.Givings.{ungiven, givings_at, carriers_of, binder_count};
 
 use crate::binders::binders_at;
 use crate::records::{Instance, Summary, Tally};
@@ -93,6 +93,14 @@ impl Givings {
             Some(summary) => Some(summary.binders()),
             None => None,
         }
+    }
+
+    /// The binders of the instance at the place.
+    pub fn asked(&self, at: u32) -> &[Option<StructId>]
+        requires { at < length self.now }
+        ensures { result.now ≡ (slice_index_or self.now at ungiven).giving.binders }
+    {
+        binders_at(&self.instances, at as usize)
     }
 
     /// The binders of the first instance at the carrier that gave `m`. Empty where none did.

@@ -5,3 +5,4 @@ pub mod GivenLemmas
 pub mod NeedLemmas
 pub mod EndingLemmas
 pub mod UndoLemmas
+pub mod GrewLemmas

@@ -3,6 +3,7 @@ ghost use Rattle.std.specs.Prelude.{◌≡◌, ◌<◌, ◌++◌, ◌∷◌, [],
 ghost use Rattle.hb_base.specs.declared.count.Count.TheVariants.{Mixins, Factories};
 ghost use Rattle.hb_hier.specs.Hierarchy.{MOST, known_as};
 ghost use Rattle.hb_hier.specs.Declaring.{fault, NoFault, IsFirstFault, DeclareRefusal, with_mixin, with_factory};
+ghost use Rattle.hb_hier.specs.Undoing.{Grew};
 
 use crate::error::HierRefused;
 use crate::hier::Hier;
@@ -14,6 +15,7 @@ use hb_order::{FactoryId, MixinId};
 impl Hier {
     /// Declares a mixin that requires the mixins that the items bring, and answers its number. The
     /// first item that is nothing or an unended factory is refused, then the 1,025th mixin.
+    #[tactic(auto, using(crate::proofs::GrewLemmas::grew_same, crate::proofs::GrewLemmas::grew_mixin))]
     pub fn add_mixin(
         &mut self,
         name: NameId,
@@ -27,6 +29,7 @@ impl Hier {
         ensures room { OnOk result (length self.old.mixins < MOST) }
         ensures refused { IfErr result
             (λ e. DeclareRefusal self.old items.now Mixins (length self.old.mixins) e) }
+        ensures grew { Grew self.old self.new }
         ensures unchanged { OnErr result (self.new ≡ self.old) }
     {
         self.check_items(items)?;
@@ -47,6 +50,7 @@ impl Hier {
     }
 
     /// Declares a factory, in the same way.
+    #[tactic(auto, using(crate::proofs::GrewLemmas::grew_same, crate::proofs::GrewLemmas::grew_factory))]
     pub fn add_factory(
         &mut self,
         name: NameId,
@@ -60,6 +64,7 @@ impl Hier {
         ensures room { OnOk result (length self.old.factories < MOST) }
         ensures refused { IfErr result
             (λ e. DeclareRefusal self.old items.now Factories (length self.old.factories) e) }
+        ensures grew { Grew self.old self.new }
         ensures unchanged { OnErr result (self.new ≡ self.old) }
     {
         self.check_items(items)?;
@@ -80,7 +85,7 @@ impl Hier {
     }
 
     /// Whether each name may stand in a list; else the fault of the first that may not.
-    pub(crate) fn check_items(&self, items: &[NameId]) -> Result<(), HierRefused>
+    pub fn check_items(&self, items: &[NameId]) -> Result<(), HierRefused>
         ensures usable { OnOk result (NoFault self.now items.now (length items.now)) }
         ensures refused { IfErr result (λ e. IsFirstFault self.now items.now e) }
     {
@@ -90,8 +95,8 @@ impl Hier {
         Ok(())
     }
 
-    /// Whether the name may stand in a list.
-    fn check_item(&self, name: NameId) -> Result<(), HierRefused>
+    /// Whether the name may stand in a list; else its fault.
+    pub fn check_item(&self, name: NameId) -> Result<(), HierRefused>
         ensures usable { OnOk result (fault self.now name ≡ None) }
         ensures refused { IfErr result (λ e. fault self.now name ≡ Some e) }
     {

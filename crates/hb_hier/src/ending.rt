@@ -3,6 +3,7 @@ ghost use Rattle.std.specs.Prelude.{◌≡◌, ◌<◌, length, false, Some, OnO
 ghost use Rattle.hb_hier.specs.Hierarchy.{ended, name_of};
 ghost use Rattle.hb_hier.specs.declared.known.Known.TheVariants.{Factory};
 ghost use Rattle.hb_hier.specs.Declaring.{EndRefusal, with_ending};
+ghost use Rattle.hb_hier.specs.Undoing.{Grew};
 
 use crate::error::HierRefused;
 use crate::hier::Hier;
@@ -14,11 +15,13 @@ use hb_sets::MixSet;
 impl Hier {
     /// Ends the factory's section: from here on it provides `prov`. Refused as Finished, with its name,
     /// where the section was ended before.
+    #[tactic(auto, using(crate::proofs::GrewLemmas::grew_same, crate::proofs::GrewLemmas::grew_ending))]
     pub fn finish_factory(&mut self, f: FactoryId, prov: &MixSet) -> Result<(), HierRefused>
         requires { f.0 < length self.old.factories }
         ensures added { OnOk result (self.new ≡ with_ending self.old f prov.now) }
         ensures fresh { OnOk result (ended self.old.endings f.0 ≡ false) }
         ensures refused { IfErr result (λ e. EndRefusal self.old f e) }
+        ensures grew { Grew self.old self.new }
         ensures unchanged { OnErr result (self.new ≡ self.old) }
     {
         if self.ended(f) {

@@ -8,6 +8,7 @@ ghost use Rattle.hb_hier.specs.declared.known.Known.TheVariants.{Mixin};
 ghost use Rattle.hb_hier.specs.Hierarchy.{IsDeclared, known_as, sets, required, provided};
 ghost use Rattle.hb_givings.specs.Givings.{givings_at, binder_count};
 ghost use Rattle.hb_hier.specs.Giving.{BindersBelow, Met, MetAt, IsReady, AllReady, MetIfGiven, AllMetIfGiven, IsFirstUnready, IsFirstUnmet, IsFirstUnmetPair, NewAreMet, giving_fault, provided_or_none, required_or_none, IsGivingAllowed, GivingRefusal, with_giving};
+ghost use Rattle.hb_hier.specs.Undoing.{Grew};
 
 use crate::error::HierRefused;
 use crate::hier::Hier;
@@ -22,6 +23,7 @@ impl Hier {
     /// Gives a mixin, or what an ended factory provides, to the carrier under the binders: what is asked
     /// of each of its arguments, a structure or nothing. Answers the mixins that the carrier hadn't. The
     /// refusals come in the order of `HierRefused`.
+    #[tactic(auto, using(crate::proofs::GrewLemmas::grew_same, crate::proofs::GrewLemmas::grew_giving))]
     pub fn give(
         &mut self,
         carrier: ConstId,
@@ -42,6 +44,7 @@ impl Hier {
             (given (givings_at self.old.givings carrier))) }
         ensures allowed { OnOk result (IsGivingAllowed self.old carrier binders.now factory) }
         ensures refused { IfErr result (λ e. GivingRefusal self.old carrier binders.now factory e) }
+        ensures grew { Grew self.old self.new }
         ensures unchanged { OnErr result (self.new ≡ self.old) }
     {
         let gives = self.check_giving(carrier, binders, factory)?;
@@ -50,8 +53,8 @@ impl Hier {
         Ok(fresh)
     }
 
-    /// Whether the giving is allowed, and what it gives.
-    fn check_giving(
+    /// What the giving would give, where it is allowed. The refusals are those of `give`.
+    pub fn check_giving(
         &self,
         carrier: ConstId,
         binders: &[Option<StructId>],

@@ -74,6 +74,14 @@ impl Hier {
         self.mixins.len() as u16
     }
 
+    /// How many factories are declared, at most 1,024.
+    pub fn factories(&self) -> u16
+        ensures count { result ≡ length self.now.factories }
+        ensures bound { result ≤ MOST }
+    {
+        self.factories.len() as u16
+    }
+
     /// How many structures are declared, at most 1,024.
     pub fn structures(&self) -> u16
         ensures count { result ≡ length self.now.structures }

@@ -1,6 +1,7 @@
 //! What a name stands for, and what was declared under it.
 ghost use Rattle.std.specs.Prelude.{◌≡◌, ◌==◌, ◌<◌, ◌≤◌, IfSome, length, slice_get, slice_index_or, position};
 ghost use Rattle.hb_hier.specs.Hierarchy.{MOST, IsDeclared, undeclared, ungrouped, known_as, name_of, fields_of, ended};
+ghost use Rattle.hb_hier.specs.Undoing.{AllListed};
 
 use crate::hier::Hier;
 use crate::known::Known;
@@ -48,10 +49,27 @@ impl Hier {
     }
 
     /// The mixins and factories, numbered together from 0 as declared. None exactly beyond the last.
+    #[tactic(auto, using(crate::proofs::GrewLemmas::listed_declared))]
     pub fn known_at(&self, i: u16) -> Option<Known>
+        ensures at { result ≡ slice_get self.now.order i }
+        ensures declared { IfSome result (IsDeclared self.now) }
+    {
+        self.order_is_declared();
+        self.entry_at(i)
+    }
+
+    /// The mixin or factory at the place of the order.
+    fn entry_at(&self, i: u16) -> Option<Known>
         ensures { result ≡ slice_get self.now.order i }
     {
         self.order.get(usize::from(i)).copied()
+    }
+
+    /// The law: what is in the order is declared.
+    fn order_is_declared(&self)
+        ensures { AllListed (length self.now.mixins) (length self.now.factories) (length self.now.structures) self.now.order }
+    {
+        let _ = &self.order;
     }
 
     /// Whether the factory's section was ended.

@@ -63,7 +63,7 @@ impl Hier {
     }
 
     /// The mixins that a list of names brings.
-    pub(crate) fn brought(&self, items: &[NameId]) -> MixSet
+    pub fn brought(&self, items: &[NameId]) -> MixSet
         ensures { result ≡ brought self.now items.now }
     {
         let mut all = MixSet::empty();

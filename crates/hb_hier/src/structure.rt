@@ -3,6 +3,7 @@ ghost use Rattle.std.specs.Prelude.{◌≡◌, ◌<◌, length, None, IfOk, IfEr
 ghost use Rattle.hb_order.specs.Allowed.{IsAllowed};
 ghost use Rattle.hb_hier.specs.Hierarchy.{MOST, known_as, sets, brought};
 ghost use Rattle.hb_hier.specs.Declaring.{NoFault, SetRefusal, StructureRefusal, with_structure};
+ghost use Rattle.hb_hier.specs.Undoing.{Grew};
 
 use crate::error::HierRefused;
 use crate::hier::Hier;
@@ -15,6 +16,7 @@ use hb_sets::MixSet;
 impl Hier {
     /// Declares a structure with the mixins that the items bring, and answers its number. The refusals
     /// come in the order of `HierRefused`.
+    #[tactic(auto, using(crate::proofs::GrewLemmas::grew_same, crate::proofs::GrewLemmas::grew_structure))]
     pub fn add_structure(&mut self, name: NameId, items: &[NameId]) -> Result<StructId, HierRefused>
         requires unknown { known_as self.old name ≡ None }
         ensures added { OnOk result (self.new ≡ with_structure self.old name items.now) }
@@ -23,15 +25,25 @@ impl Hier {
         ensures allowed { OnOk result (IsAllowed (sets self.old) (brought self.old items.now)) }
         ensures room { OnOk result (length self.old.structures < MOST) }
         ensures refused { IfErr result (λ e. StructureRefusal self.old items.now e) }
+        ensures grew { Grew self.old self.new }
         ensures unchanged { OnErr result (self.new ≡ self.old) }
     {
         self.check_items(items)?;
         let mixins = self.brought(items);
-        check_set(&self.joins, &mixins)?;
+        self.check_structure(&mixins)?;
         self.structures.reserve(1)?;
         let s = self.joins.add(mixins.copy())?;
         self.structures.push_reserved(Structure { name, mixins });
         Ok(s)
+    }
+
+    /// Whether a structure with the mixins may be declared.
+    pub fn check_structure(&self, mixins: &MixSet) -> Result<(), HierRefused>
+        ensures allowed { OnOk result (IsAllowed (sets self.now) mixins.now) }
+        ensures room { OnOk result (length self.now.structures < MOST) }
+        ensures refused { IfErr result (λ e. SetRefusal (sets self.now) mixins.now e) }
+    {
+        check_set(self.joins(), mixins)
     }
 }
 

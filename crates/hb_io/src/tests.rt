@@ -75,3 +75,17 @@ fn standard_output_takes_all(rt: HostRuntime) -> Result<(), Fail> {
     assert_eq!(rt; out.told(), None);
     Ok(())
 }
+
+#[test]
+fn a_real_file_is_made_at_the_first_write(rt: HostRuntime) -> Result<(), Fail> {
+    let name = String::from_str(rt.alloc(), "o.v")?;
+    let mut sink = FileSink::new(rt.clone()?, name);
+    assert_eq!(rt; write_all(&mut sink, b"accepted"), Ok(()));
+    assert_eq!(rt; sink.told(), None);
+    let mut depot = FileDepot::new(&rt);
+    match read_whole(rt.alloc(), &mut depot, "o.v", 99)? {
+        Whole::Bytes(bytes) => assert_eq!(rt; bytes.as_slice(), b"accepted".as_slice()),
+        Whole::TooLong => assert!(rt; false),
+    }
+    Ok(())
+}

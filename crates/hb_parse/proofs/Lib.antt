@@ -9,3 +9,4 @@ pub mod NamesLemmas
 pub mod Needed
 pub mod Exact
 pub mod Numbering
+pub mod Tied

@@ -83,6 +83,14 @@ module _ (i : ℕ) where
       (step_loads i s m w n l)
       (λ t us r k. run_uses more before cs us t (n + weight i (need s m) w) r k (omega (arith, p)))
 
+  -- what tokens that were read need
+  pub needed_before : {most : Most} {front : List Seen} {before : List Sentence} {s : State} (n : ℕ) → Came most front before s
+      → Load i s n → 0 < uses i before + n → (ls : List Leaf) (cs : List Sentence) (more : List Seen)
+      → tokens ls ≡ front ++ more → IsFile ls cs [] → 0 < uses i cs
+  needed_before {before = before} {s = s} n c l p ls cs more e h =
+      let q = c.runs more ls cs (ap (λ x. run [] (Some begin) x) (sym e) ∙ file_run h cs refl) in
+      run_uses more before cs q.0 s n q.1 l p
+
 -- a text that is needed and not held is the whole, or the first part
 own_use : (n : NameId) → name_uses n.0 n ≡ 1
 own_use n = rw (eq-eqb n.0 n.0 refl) refl

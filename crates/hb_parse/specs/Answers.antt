@@ -1,5 +1,5 @@
 -- What a file's tokens are answered: their commands, or why there are none, by the grammar alone.
-use Rattle.std.specs.Prelude.{◌≡◌, ℕ, ◌+◌, ◌^◌, ◌<◌, ◌≤◌, List, [], ◌∷◌, ◌++◌, length, take, Option, Some, None, false, slice_get}
+use Rattle.std.specs.Prelude.{◌≡◌, ℕ, ◌+◌, ◌^◌, ◌<◌, ◌≤◌, ◌⊎◌, List, [], ◌∷◌, ◌++◌, length, take, Option, Some, None, false, slice_get}
 use Rattle.hb_base.specs.declared.span.Span.{Span}
 use Rattle.hb_base.specs.declared.count.Count.TheVariants as counts
 use Rattle.hb_base.specs.Names.{is_named}
@@ -11,6 +11,7 @@ use Rattle.hb_grammar.specs.Grammar.{IsFile}
 use Rattle.hb_grammar.specs.Places.{Seen, tokens, Most, Reads, Front, SyntaxAt, DeepAt}
 use Rattle.hb_parse.specs.declared.error.ParseRefused.{ParseRefused}
 use Rattle.hb_parse.specs.declared.error.ParseRefused.TheVariants.{Syntax, TooDeep, TooMany, NoMemory}
+use Rattle.hb_parse.specs.Marks.{piece, first_part}
 use Rattle.hb_parse.specs.Uses.{uses}
 use Rattle.hb_parse.specs.Signs.{Numbering, Agrees, file_of}
 
@@ -91,6 +92,24 @@ AreHeld names cs = (i : ℕ) → length names ≤ i → uses i cs ≡ 0
 -- each new name stands in the sentences
 abbrev pub AddsOnly : List (List ℕ) → List (List ℕ) → List Sentence → Type 0
 AddsOnly old new cs = (i : ℕ) → length old ≤ i → i < length new → 0 < uses i cs
+
+-- each file that begins with the first n tokens has name number j among its names
+abbrev pub IsNeededBy : List (List ℕ) → List ℕ → List Token → ℕ → ℕ → Type 0
+IsNeededBy names bytes ts n j =
+    (ν : Numbering) → Agrees ν names → (ls : List Leaf) (cs : List Sentence) (more : List Seen)
+    → tokens ls ≡ take n (file_of ν bytes ts) ++ more → IsFile ls cs [] → 0 < uses j cs
+
+-- name number j is the text of token number n, or the first part of it
+abbrev pub IsOfToken : List (List ℕ) → List ℕ → List Token → ℕ → ℕ → Type 0
+IsOfToken names bytes ts n j =
+    (t : Token) × (slice_get ts n ≡ Some t)
+    × ((slice_get names j ≡ Some (piece bytes t.span)) ⊎ (slice_get names j ≡ Some (first_part (piece bytes t.span))))
+
+-- The tokens before number `index` begin a file, and each new name is one that they need, or one of that token.
+pub record AddsRead (old new : List (List ℕ)) (bytes : List ℕ) (ts : List Token) : Type 0 where
+  pub index : ℕ
+  pub begins : (ν : Numbering) → Agrees ν new → Front limits (take index (file_of ν bytes ts))
+  pub needed : (j : ℕ) → length old ≤ j → j < length new → IsNeededBy new bytes ts index j ⊎ IsOfToken new bytes ts index j
 
 -- a fault of form
 abbrev pub IsFormFault : ParseRefused → Type 0

@@ -34,6 +34,15 @@ AreNumbers names Whole text whole first = IsNumber names text whole
 AreNumbers names First text whole first = IsNumber names (first_part text) first
 AreNumbers names Both text whole first = IsNumber names text whole × IsNumber names (first_part text) first
 
+-- each new name is the text
+abbrev pub AddsText : List (List ℕ) → List (List ℕ) → List ℕ → Type 0
+AddsText old new text = (j : ℕ) → length old ≤ j → j < length new → slice_get new j ≡ Some text
+
+-- each new name is the text, or the first part of it
+abbrev pub AddsParts : List (List ℕ) → List (List ℕ) → List ℕ → Type 0
+AddsParts old new text =
+    (j : ℕ) → length old ≤ j → j < length new → (slice_get new j ≡ Some text) ⊎ (slice_get new j ≡ Some (first_part text))
+
 -- a text that is needed isn't held
 abbrev pub Lacks : List (List ℕ) → Need → List ℕ → Type 0
 Lacks names Nothing text = ⊥

@@ -1,7 +1,7 @@
 //! The commands of a file.
 ghost use Rattle.std.specs.Prelude.{◌≡◌, ◌≤◌, ◌<◌, ◌^◌, length, IfOk, IfErr, OnOk};
 ghost use Rattle.hb_raw.specs.Views.{sentences};
-ghost use Rattle.hb_parse.specs.Answers.{AddsOnly, AreHeld, AreTokens, IsFormFault, ReadsAs, ReadsNone, Refuses, file_number, place_at};
+ghost use Rattle.hb_parse.specs.Answers.{AddsOnly, AddsRead, AreHeld, AreTokens, IsFormFault, ReadsAs, ReadsNone, Refuses, file_number, place_at};
 ghost use Rattle.hb_parse.specs.Numbers.{Extends};
 ghost use Rattle.hb_parse.specs.Turns.{refusal};
 
@@ -28,8 +28,10 @@ pub fn parse(
     ensures refused { IfErr result (λ e. Refuses names.new bytes.now tokens.now e) }
     ensures none { IfErr result (λ e. IsFormFault e → ReadsNone names.new bytes.now tokens.now) }
 
-    // The names that were held keep their numbers; after `Ok` each further one is a command's.
+    // The names that were held keep their numbers; each further one is one that the tokens read so far
+    // need, and after `Ok` a command's.
     ensures kept { Extends names.old names.new }
+    ensures tied { AddsRead names.old names.new bytes.now tokens.now }
     ensures held { IfOk result (λ cs. AreHeld names.new (sentences cs.items)) }
     ensures alone { IfOk result (λ cs. AddsOnly names.old names.new (sentences cs.items)) }
 {

@@ -3,7 +3,7 @@ ghost use Rattle.std.specs.Prelude.{◌≡◌, ◌≤◌, ℕ, Err, IfOk, IfErr,
 ghost use Rattle.std.specs.Str.{IsAscii};
 ghost use Rattle.hb_base.specs.Names.{is_named, with_name};
 ghost use Rattle.hb_base.specs.declared.names.NamesRefused.TheVariants.{TooMany};
-ghost use Rattle.hb_parse.specs.Numbers.{Extends, IsNumber, AreNumbers, Counts, Lacks, needed, number_uses, with_names};
+ghost use Rattle.hb_parse.specs.Numbers.{Extends, IsNumber, AreNumbers, AddsText, AddsParts, Counts, Lacks, needed, number_uses, with_names};
 ghost use Rattle.hb_parse.specs.Uses.{name_uses};
 
 use super::mark::first;
@@ -20,6 +20,7 @@ fn number(names: &mut Names, text: &[u8]) -> Result<NameId, NamesRefused>
     ensures added { OnOk result (names.new ≡ with_name names.old text.now) }
     ensures unchanged { OnErr result (names.new ≡ names.old) }
     ensures grown { length names.old ≤ length names.new }
+    ensures text { AddsText names.old names.new text.now }
     ensures counted { IfOk result (λ id. (i : ℕ) → Counts i names.old names.new (name_uses i id)) }
     ensures too_many { result ≡ Err TooMany → (is_named names.old text.now ≡ false) × (65535 ≤ length names.old) }
 {
@@ -39,6 +40,7 @@ pub(crate) fn numbers(
     ensures numbers { IfOk result (λ n. AreNumbers names.new need text.now n.0 n.1) }
     ensures added { OnOk result (names.new ≡ with_names names.old (needed need text.now)) }
     ensures kept { Extends names.old names.new }
+    ensures parts { AddsParts names.old names.new text.now }
     ensures counted { IfOk result (λ n. (i : ℕ) → Counts i names.old names.new (number_uses i need n.0 n.1)) }
     ensures too_many { result ≡ Err TooMany → (65535 ≤ length names.new) × Lacks names.new need text.now }
 {

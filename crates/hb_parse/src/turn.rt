@@ -6,7 +6,7 @@ ghost use Rattle.hb_reader.specs.Signs.{sign};
 ghost use Rattle.hb_reader.specs.States.{state};
 ghost use Rattle.hb_parse.specs.Marks.{mark_of};
 ghost use Rattle.hb_parse.specs.Signs.{value_of};
-ghost use Rattle.hb_parse.specs.Numbers.{Extends};
+ghost use Rattle.hb_parse.specs.Numbers.{AddsParts, Extends};
 ghost use Rattle.hb_parse.specs.Turns.{Counted, Fits, Goes, Halts, Overfull, Stops};
 
 use super::level::level;
@@ -60,6 +60,7 @@ pub(crate) fn turn(
     ensures fits { OnOk result (Fits (state around) (mark_of kind text.now)) }
     ensures stop { IfErr result (λ e. Stops names.new (state around) (mark_of kind text.now) text.now e) }
     ensures kept { Extends names.old names.new }
+    ensures parts { AddsParts names.old names.new text.now }
     ensures counted { IfOk result (λ s. Counted names.old names.new (state around) (mark_of kind text.now) (state s)) }
 {
     let mark = mark(kind, text);

@@ -1,4 +1,3 @@
 -- what public contracts rest on
-pub mod Reserved
-pub mod Types
-pub mod Commands
+pub mod Sections
+pub mod Queries

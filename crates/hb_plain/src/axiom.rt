@@ -1,154 +1,93 @@
 //! Axioms.
-ghost use Rattle.std.specs.Prelude.{◌≡◌, ◌∷◌, [], List, IfOk, IfErr, OnOk, OnErr};
-ghost use Rattle.hb_calculus.specs.Budget.{budget, Budget};
-ghost use Rattle.hb_calculus.specs.Declarations as calculus;
-ghost use Rattle.hb_calculus.specs.Declarations.{an_axiom};
+ghost use Rattle.std.specs.Prelude.{◌≡◌, ◌++◌, IfOk, OnOk, OnErr};
 ghost use Rattle.hb_env.specs.Plain.{plains};
-ghost use Rattle.hb_kernel.specs.Answers.{AddRefusal};
-ghost use Rattle.hb_raw.specs.Preterm.{Preterm};
 ghost use Rattle.hb_env.specs.declared.entry.Head.TheVariants as head;
-ghost use Rattle.hb_raw.specs.Views.{term};
-ghost use Rattle.hb_term.specs.Meaning.{tree};
-ghost use Rattle.hb_plain.specs.Commands as spec;
-ghost use Rattle.hb_plain.specs.Commands.{AxiomTaken, AxiomCause, IsFree, NameCause, Declared, IsKernels, KernelCause, TypeCause};
-ghost use Rattle.hb_plain.specs.Types.{TypeFails};
+ghost use Rattle.hb_world.specs.Taking.{HasAdded};
 
-use crate::fault::{TypeFault, TypeRefused};
-use crate::reserved::is_reserved;
-use crate::types::type_of;
-use hb_base::{Limits, NameId, Names};
-use hb_env::{Decl, Entry, Env, Head, Refusal, What};
-use hb_kernel::{KernelRefused, Theory};
+use hb_base::{Limits, Span};
+use hb_elab::{Local, Work, elab_type};
+use hb_env::{Decl, Entry, Head, Refusal, What};
+use hb_kernel::Theory;
 use hb_raw::{Raw, Word};
+use hb_step::{
+    add_definition, not_reserved, not_taken, of_elaboration, outside_section, passed_count, refused,
+};
 use hb_term::Term;
+use hb_world::{Typed, World};
 use std::alloc::{AllocError, Global};
 
-/// Takes an axiom whose type is of the forms that are built.
+/// Takes an axiom.
 pub(crate) fn axiom(
     alloc: Global,
-    names: &Names,
     theory: &mut Theory,
+    world: &World,
+    span: Span,
     name: Word,
     ty: &Raw,
     limits: &Limits,
 ) -> Result<Entry, Refusal>
-    ensures accepted { IfOk result (λ entry. AxiomTaken names.now theory.old (budget limits.now) name (term ty.now) theory.new entry) }
-    ensures refused { IfErr result (λ r. AxiomCause names.now theory.old (budget limits.now) name (term ty.now) r.span r.what) }
+    ensures added { IfOk result (HasAdded theory.old theory.new) }
+    ensures head { IfOk result (λ entry. entry.head ≡ head.Axiom) }
     ensures unchanged { OnErr result (theory.new ≡ theory.old) }
 {
-    match free(names, theory.env(), name) {
-        Ok(()) => {}
+    let entry = match axiom_entry(alloc, theory, world, span, name, ty, limits) {
+        Ok(entry) => entry,
         Err(refusal) => return Err(refusal),
-    }
-    let ty = match type_of(alloc, theory.env(), limits, ty) {
-        Ok(ty) => ty,
-        Err(refused) => return Err(of_type(refused)),
     };
-    match declare(alloc, theory, name, ty, limits) {
-        Ok(entry) => Ok(entry),
+    match declare(alloc, theory, &entry, limits, name.span, ty.span, ty.span) {
+        Ok(()) => Ok(entry),
         Err(refusal) => Err(refusal),
     }
 }
 
-/// Whether a name can be declared.
-fn free(names: &Names, env: &Env, name: Word) -> Result<(), Refusal>
-    ensures free { OnOk result (IsFree names.now env.now name) }
-    ensures refused { IfErr result (λ r. NameCause names.now env.now name r.span r.what) }
-{
-    if is_kept(names, name.name) {
-        return Err(at_name(name, What::ReservedName(name.name)));
-    }
-    match env.lookup(name.name) {
-        Some(_) => Err(at_name(name, What::Redeclared(name.name))),
-        None => Ok(()),
-    }
-}
-
-/// Whether the name of this number is kept for generated ones.
-fn is_kept(names: &Names, name: NameId) -> bool
-    ensures { result ≡ spec.is_kept names.now name.0 }
-{
-    (name.0 as usize) < names.len() && is_reserved(names.text(name))
-}
-
-/// A refusal at the declared name.
-fn at_name(name: Word, what: What) -> Refusal
-    ensures { result ≡ record { span = name.span; what = what } }
-{
-    Refusal {
-        span: name.span,
-        what,
-    }
-}
-
-/// The refusal of a written type.
-fn of_type(refused: TypeRefused) -> Refusal
-    ensures { (E : List calculus.Decl) (L : Budget) (p : Preterm) → TypeFails E L p refused.span refused.fault → TypeCause E L p result.span result.what }
-{
-    let span = refused.span;
-    match refused.fault {
-        TypeFault::NotBuilt => Refusal {
-            span,
-            what: What::NotYet,
-        },
-        TypeFault::Unknown(name) => Refusal {
-            span,
-            what: What::UnknownName(name),
-        },
-        TypeFault::NotType(head) => Refusal {
-            span,
-            what: What::NotType(head),
-        },
-        TypeFault::TooHigh => Refusal {
-            span,
-            what: What::LevelTooHigh,
-        },
-        TypeFault::Spent(term) => Refusal {
-            span,
-            what: What::Spent(term),
-        },
-        TypeFault::NoMemory => Refusal {
-            span,
-            what: What::NoMemory,
-        },
-    }
-}
-
-/// Declares a new name with its type.
-fn declare(
+/// The entry of an axiom that may be declared.
+fn axiom_entry(
     alloc: Global,
-    theory: &mut Theory,
+    theory: &Theory,
+    world: &World,
+    span: Span,
     name: Word,
-    ty: Term,
+    ty: &Raw,
     limits: &Limits,
 ) -> Result<Entry, Refusal>
-    ensures declared { IfOk result (λ entry. Declared theory.old name (tree ty) theory.new entry) }
-    ensures refused { IfErr result (λ r. IsKernels theory.old (budget limits.now) name (tree ty) r.span r.what) }
-    ensures unchanged { OnErr result (theory.new ≡ theory.old) }
+    ensures head { IfOk result (λ entry. entry.head ≡ head.Axiom) }
 {
-    let entry = match entry_of(alloc, name, &ty) {
-        Ok(entry) => entry,
-        Err(_) => return Err(at_name(name, What::NoMemory)),
+    outside_section(world, span)?;
+    not_reserved(&world.names, name.name, name.span)?;
+    not_taken(theory.env(), &world.hier, name.name, name.span)?;
+    let ty = type_of(alloc, theory, world, ty, limits)?;
+    match entry_of(alloc, name, ty) {
+        Ok(entry) => Ok(entry),
+        Err(_) => Err(refused(name.span, What::NoMemory)),
+    }
+}
+
+/// The written type of an axiom.
+fn type_of(
+    alloc: Global,
+    theory: &Theory,
+    world: &World,
+    ty: &Raw,
+    limits: &Limits,
+) -> Result<Term, Refusal> {
+    let Ok(local) = Local::new(alloc, None) else {
+        return Err(refused(ty.span, What::NoMemory));
     };
-    let declared = Decl::Axiom {
-        name: name.name,
-        ty,
-    };
-    match theory.add(declared, limits) {
-        Ok(_) => Ok(entry),
-        Err(refused) => Err(at_name(name, of_kernel(refused))),
+    let mut work = Work { moves: 0, holes: 0 };
+    match elab_type(alloc, theory.env(), world, &local, ty, &mut work, limits) {
+        Ok(Typed { term, ty: _ }) => Ok(term),
+        Err(fault) => Err(of_elaboration(fault)),
     }
 }
 
 /// The entry of an axiom.
-fn entry_of(alloc: Global, name: Word, ty: &Term) -> Result<Entry, AllocError>
+fn entry_of(alloc: Global, name: Word, ty: Term) -> Result<Entry, AllocError>
     ensures head { IfOk result (λ entry. entry.head ≡ head.Axiom) }
-    ensures made { IfOk result (λ entry. plains entry.decls.items ≡ an_axiom name.name.0 (tree ty.now) ∷ []) }
 {
     let mut decls = Vec::new(alloc);
     decls.push(Decl::Axiom {
         name: name.name,
-        ty: ty.copy()?,
+        ty,
     })?;
     Ok(Entry {
         head: Head::Axiom,
@@ -156,20 +95,24 @@ fn entry_of(alloc: Global, name: Word, ty: &Term) -> Result<Entry, AllocError>
     })
 }
 
-/// The refusal of the kernel.
-fn of_kernel(refused: KernelRefused) -> What
-    ensures { (E : List calculus.Decl) (L : Budget) (d : calculus.Decl) → AddRefusal E L d refused → KernelCause E L d result }
+/// Adds the one declaration of an entry, whose name, written type and body stand at these places.
+pub(crate) fn declare(
+    alloc: Global,
+    theory: &mut Theory,
+    entry: &Entry,
+    limits: &Limits,
+    name: Span,
+    ty: Span,
+    body: Span,
+) -> Result<(), Refusal>
+    ensures added { OnOk result (theory.new ≡ theory.old ++ plains entry.now.decls.items) }
+    ensures unchanged { OnErr result (theory.new ≡ theory.old) }
 {
-    match refused {
-        KernelRefused::Redeclared(name) => What::Redeclared(name),
-        KernelRefused::NotFunction(head) => What::NotFunction(head),
-        KernelRefused::NotSort(head) => What::NotType(head),
-        KernelRefused::NotRecord(head) => What::NotRecord(head),
-        KernelRefused::NotConvertible(a, b) => What::NotConvertible(a, b),
-        KernelRefused::Unscoped => What::NoMemory,
-        KernelRefused::LevelTooHigh => What::LevelTooHigh,
-        KernelRefused::Spent(term) => What::Spent(term),
-        KernelRefused::TooMany(count) => What::TooMany(count),
-        KernelRefused::NoMemory => What::NoMemory,
+    if let Some(count) = passed_count(theory.env(), &entry.decls) {
+        return Err(refused(name, What::TooMany(count)));
+    }
+    match entry.decls.as_slice() {
+        [decl] => add_definition(alloc, theory, decl, limits, ty, body),
+        _ => Err(refused(name, What::NoMemory)),
     }
 }

@@ -1,62 +1,77 @@
 //! Taking a command.
-ghost use Rattle.std.specs.Prelude.{◌≡◌, IfOk, IfErr, OnErr};
-ghost use Rattle.hb_calculus.specs.Budget.{budget};
-ghost use Rattle.hb_raw.specs.Views.{command};
-ghost use Rattle.hb_plain.specs.Commands.{Taken, IsCause};
+ghost use Rattle.std.specs.Prelude.{◌≡◌, IfOk, OnErr};
+ghost use Rattle.hb_raw.specs.Views.{act};
+ghost use Rattle.hb_env.specs.declared.entry.Head.TheVariants as head;
+ghost use Rattle.hb_world.specs.Worlds.{IsAsBefore, background};
+ghost use Rattle.hb_world.specs.Taking.{HasAdded, HasGrown, HasHead, Extends};
 
 use crate::axiom::axiom;
-use crate::types::is_built;
-use hb_base::{Limits, Names, Span};
+use crate::definition::{Written, definition};
+use crate::query::{find, join_of};
+use hb_base::Limits;
 use hb_env::{Entry, Refusal, What};
 use hb_kernel::Theory;
 use hb_raw::{Command, CommandKind};
+use hb_step::refused;
+use hb_world::{Done, World};
 use std::alloc::Global;
 
-/// Takes a command: adds what it declares to the theory, and answers its entry. Refused in this order:
-/// `NotYet` at the first word of a command that isn't built, `ReservedName` and `Redeclared` of the
-/// declared name, the first fault of its type in the order of the text (`UnknownName`, `NotType`,
-/// `LevelTooHigh`, `Spent`), and what the kernel refuses, at the declared name. Where it is refused, the
-/// theory stays.
+/// Takes an axiom, a definition, or a query for a join or an instance. Refused in this order: `SectionOpen`
+/// for an axiom in a section; `ReservedName` and `Redeclared` of the declared name, or `UnknownName` of a
+/// query's structures; the faults of elaboration; `TooMany`; and what the kernel refuses. Where it is
+/// refused, nothing changes but names.
 pub fn apply(
     alloc: Global,
-    names: &Names,
     theory: &mut Theory,
+    world: &mut World,
     taken: &Command,
     limits: &Limits,
-) -> Result<Entry, Refusal>
-    ensures accepted { IfOk result (λ entry. Taken names.now theory.old (budget limits.now) (command taken.now) theory.new entry) }
-    ensures refused { IfErr result (λ r. IsCause names.now theory.old (budget limits.now) (command taken.now) r.span r.what) }
+) -> Result<Done, Refusal>
+    ensures grown { IfOk result (λ done. HasGrown theory.old theory.new done) }
+    ensures head { IfOk result (λ done. HasHead (act taken.now.kind) done) }
     ensures unchanged { OnErr result (theory.new ≡ theory.old) }
+    ensures as_before { OnErr result (IsAsBefore (background world.old) (background world.new)) }
+    ensures names { Extends world.old.names world.new.names }
 {
     match &taken.kind {
         CommandKind::Axiom { name, ty } => {
-            if is_built(ty) {
-                axiom(alloc, names, theory, *name, ty, limits)
-            } else {
-                Err(not_yet(taken.span))
+            match axiom(alloc, theory, world, taken.span, *name, ty, limits) {
+                Ok(entry) => Ok(Done::Entry(entry)),
+                Err(refusal) => Err(refusal),
             }
         }
-        CommandKind::Definition { .. }
-        | CommandKind::Mixin { .. }
+        CommandKind::Definition {
+            name,
+            binders,
+            ty,
+            body,
+        } => {
+            let written = Written {
+                name: *name,
+                binders,
+                ty: ty.as_ref(),
+                body,
+            };
+            match definition(alloc, theory, world, written, limits) {
+                Ok(entry) => Ok(Done::Entry(entry)),
+                Err(refusal) => Err(refusal),
+            }
+        }
+        CommandKind::Join { a, b } => match join_of(&world.hier, *a, *b) {
+            Ok(join) => Ok(Done::Join(join)),
+            Err(refusal) => Err(refusal),
+        },
+        CommandKind::Find { structure, carrier } => {
+            find(alloc, theory, world, *structure, carrier, limits)
+        }
+        CommandKind::Mixin { .. }
         | CommandKind::Factory { .. }
         | CommandKind::Builders { .. }
         | CommandKind::End
         | CommandKind::Structure { .. }
         | CommandKind::Instance { .. }
-        | CommandKind::Join { .. }
-        | CommandKind::Find { .. }
         | CommandKind::Require { .. }
         | CommandKind::Howto { .. }
-        | CommandKind::About { .. } => Err(not_yet(taken.span)),
-    }
-}
-
-/// The refusal of a form that isn't built.
-fn not_yet(span: Span) -> Refusal
-    ensures { result ≡ record { span = span; what = What.NotYet } }
-{
-    Refusal {
-        span,
-        what: What::NotYet,
+        | CommandKind::About { .. } => Err(refused(taken.span, What::NotYet)),
     }
 }

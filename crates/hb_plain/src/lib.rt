@@ -1,15 +1,15 @@
-//! Plain commands: so far axioms, whose types are names, sorts and arrows.
+//! Plain commands: axioms, definitions, and the queries for joins and instances.
 #![tactic(auto)]
 
 mod axiom;
 mod command;
-mod fault;
-mod reserved;
-mod types;
+mod definition;
+mod query;
+mod replaying;
 
 pub use command::apply;
-pub use fault::{TypeFault, TypeRefused};
-pub use reserved::is_reserved;
+pub use query::{join_of, structure_of};
+pub use replaying::replay;
 
 #[cfg(test)]
 mod tests;

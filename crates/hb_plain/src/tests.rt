@@ -1,19 +1,32 @@
-use crate::is_reserved;
+use crate::apply;
+use hb_base::{Limits, Span};
+use hb_kernel::Theory;
+use hb_raw::{Command, CommandKind, Raw, RawKind, Word};
+use hb_world::World;
 use std::test::*;
 
+const SPAN: Span = Span {
+    file: 0,
+    from: 0,
+    to: 1,
+};
+
 #[test]
-fn generated_names_are_kept(rt: HostRuntime) -> Result<(), Fail> {
-    for (name, kept) in [
-        ("HB_", true),
-        ("HB_a", true),
-        ("HB", false),
-        ("_1", true),
-        ("_01", true),
-        ("_", false),
-        ("_1a", false),
-        ("a_1", false),
-    ] {
-        assert_eq!(rt; is_reserved(name), kept, "of {name}");
-    }
+fn an_axiom_is_declared(rt: HostRuntime) -> Result<(), Fail> {
+    let alloc = rt.alloc();
+    let mut theory = Theory::new(alloc)?;
+    let mut world = World::new(alloc)?;
+    let name = world.names.number("nat").map_err(|_| "numbered")?;
+    let kind = CommandKind::Axiom {
+        name: Word { name, span: SPAN },
+        ty: Raw {
+            span: SPAN,
+            kind: RawKind::Level(0),
+        },
+    };
+    let taken = Command { span: SPAN, kind };
+    let done = apply(alloc, &mut theory, &mut world, &taken, &Limits::DEFAULT);
+    assert!(rt; done.is_ok());
+    assert_eq!(rt; theory.env().len(), 1);
     Ok(())
 }

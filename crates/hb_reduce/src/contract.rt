@@ -38,8 +38,8 @@ fn contract_step(alloc: Global, env: &Env, part: &Part) -> Result<Option<Part>, 
     }
 }
 
-/// The body of a function with the argument put in.
-fn beta(alloc: Global, f: &Part, a: &Part) -> Result<Option<Part>, AllocError>
+/// The body of a function with the argument put in; `None` where the term is no function.
+pub fn beta(alloc: Global, f: &Part, a: &Part) -> Result<Option<Part>, AllocError>
     ensures { IfOk result (λ o. o ≡ beta_of f.now a.now) }
 {
     match f.as_ref() {
@@ -58,8 +58,8 @@ fn delta(alloc: Global, env: &Env, c: ConstId) -> Result<Option<Part>, AllocErro
     }
 }
 
-/// The field of a maker with all its arguments.
-fn projection(env: &Env, rec: RecId, field: u16, of: &Part) -> Result<Option<Part>, AllocError>
+/// The field of a maker with all its arguments; `None` where the term is none.
+pub fn projection(env: &Env, rec: RecId, field: u16, of: &Part) -> Result<Option<Part>, AllocError>
     ensures { IfOk result (λ o. o ≡ contract env.now (proj rec field of.now)) }
 {
     let Some((params, fields)) = sizes(env, rec) else {

@@ -17,6 +17,7 @@ mod spine;
 mod step;
 mod walk;
 
+pub use contract::{beta, projection};
 pub use error::ReduceRefused;
 pub use reduce::{nf, whnf};
 pub use spine::{is_built, sizes};

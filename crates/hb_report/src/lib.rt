@@ -7,8 +7,8 @@ mod refusals;
 mod values;
 
 pub use lines::{event_line, list_line, refused_line};
-pub use refusals::Value;
-pub use values::name_text;
+pub use refusals::{Value, values as refused_values};
+pub use values::{count_word, name_text};
 
 #[cfg(test)]
 mod tests;

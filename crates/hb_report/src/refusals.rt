@@ -85,8 +85,8 @@ pub(crate) fn title(what: &What) -> Telling
     }
 }
 
-/// The values of a refusal, in their order.
-pub(crate) fn values<'a>(alloc: Global, what: &'a What) -> Result<Vec<Value<'a>>, AllocError>
+/// The values of a refusal, in their order. Out of memory is the one error.
+pub fn values<'a>(alloc: Global, what: &'a What) -> Result<Vec<Value<'a>>, AllocError>
     ensures { IfOk result (λ v. map printed v.items ≡ spec.values what.now) }
 {
     match what {

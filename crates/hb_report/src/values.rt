@@ -66,7 +66,7 @@ pub fn name_text(alloc: Global, names: &Names, name: NameId) -> Result<String, A
 }
 
 /// The word of a count.
-fn count_word(count: Count) -> &'static str
+pub fn count_word(count: Count) -> &'static str
     ensures { result.now ≡ spec.count_word count }
 {
     match count {

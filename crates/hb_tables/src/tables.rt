@@ -5,6 +5,7 @@ ghost use Rattle.indexmap.specs.IndexMap.{get};
 ghost use Rattle.hb_tree.specs.Tree.{const};
 ghost use Rattle.hb_term.specs.Meaning.{tree};
 ghost use Rattle.hb_tables.specs.Maps.{Maps, none, records_of, structure_of, coercion_of, entry_of, mixin_of, operation_of, builder_of, with_structure, mark_of, cut};
+ghost use Rattle.hb_tables.specs.Growing.{IsWhole, Grew};
 
 use crate::marks::TablesMark;
 use hb_order::{FactoryId, MixinId, StructId};
@@ -121,61 +122,72 @@ impl Tables {
     }
 
     /// Adds the coercion from `a` to `b`.
+    #[tactic(auto, using(crate::proofs::GrowLemmas::grew_same, crate::proofs::GrowLemmas::grew_coercions))]
     pub fn add_coercion(&mut self, a: StructId, b: StructId, c: ConstId) -> Result<(), AllocError>
         requires new { coercion_of self.old a b ≡ None }
         requires room { length self.old.coercions < 2 ^ 32 - 1 }
         ensures added { OnOk result
             (self.new ≡ record self.old { coercions = self.old.coercions ++ ((a, b), c) ∷ [] }) }
+        ensures grew { Grew self.old self.new }
         ensures unchanged { OnErr result (self.new ≡ self.old) }
     {
         add(&mut self.coercions, (a, b), c)
     }
 
     /// Adds the instance of the structure at the carrier.
+    #[tactic(auto, using(crate::proofs::GrowLemmas::grew_same, crate::proofs::GrowLemmas::grew_entries))]
     pub fn add_entry(&mut self, s: StructId, carrier: ConstId, c: ConstId) -> Result<(), AllocError>
         requires new { entry_of self.old s carrier ≡ None }
         requires room { length self.old.entries < 2 ^ 32 - 1 }
         ensures added { OnOk result
             (self.new ≡ record self.old { entries = self.old.entries ++ ((s, carrier), c) ∷ [] }) }
+        ensures grew { Grew self.old self.new }
         ensures unchanged { OnErr result (self.new ≡ self.old) }
     {
         add(&mut self.entries, (s, carrier), c)
     }
 
     /// Adds the mixin at the carrier.
+    #[tactic(auto, using(crate::proofs::GrowLemmas::grew_same, crate::proofs::GrowLemmas::grew_mixins))]
     pub fn add_mixin(&mut self, carrier: ConstId, m: MixinId, c: ConstId) -> Result<(), AllocError>
         requires new { mixin_of self.old carrier m ≡ None }
         requires room { length self.old.mixins < 2 ^ 32 - 1 }
         ensures added { OnOk result
             (self.new ≡ record self.old { mixins = self.old.mixins ++ ((carrier, m), c) ∷ [] }) }
+        ensures grew { Grew self.old self.new }
         ensures unchanged { OnErr result (self.new ≡ self.old) }
     {
         add(&mut self.mixins, (carrier, m), c)
     }
 
     /// Adds the operation of the structure.
+    #[tactic(auto, using(crate::proofs::GrowLemmas::grew_same, crate::proofs::GrowLemmas::grew_operations))]
     pub fn add_operation(&mut self, c: ConstId, s: StructId) -> Result<(), AllocError>
         requires new { operation_of self.old c ≡ None }
         requires room { length self.old.operations < 2 ^ 32 - 1 }
         ensures added { OnOk result
             (self.new ≡ record self.old { operations = self.old.operations ++ (c, s) ∷ [] }) }
+        ensures grew { Grew self.old self.new }
         ensures unchanged { OnErr result (self.new ≡ self.old) }
     {
         add(&mut self.operations, c, s)
     }
 
     /// Adds the constant that builds the mixin for the factory.
+    #[tactic(auto, using(crate::proofs::GrowLemmas::grew_same, crate::proofs::GrowLemmas::grew_builders))]
     pub fn add_builder(&mut self, f: FactoryId, m: MixinId, c: ConstId) -> Result<(), AllocError>
         requires new { builder_of self.old f m ≡ None }
         requires room { length self.old.builders < 2 ^ 32 - 1 }
         ensures added { OnOk result
             (self.new ≡ record self.old { builders = self.old.builders ++ ((f, m), c) ∷ [] }) }
+        ensures grew { Grew self.old self.new }
         ensures unchanged { OnErr result (self.new ≡ self.old) }
     {
         add(&mut self.builders, (f, m), c)
     }
 
     /// Adds the class and the package record of the structure.
+    #[tactic(auto, using(crate::proofs::GrowLemmas::grew_same, crate::proofs::GrowLemmas::grew_structures))]
     pub fn add_structure(
         &mut self,
         s: StructId,
@@ -186,6 +198,7 @@ impl Tables {
         requires new_pack { structure_of self.old pack ≡ None }
         requires room { length self.old.structures < 2 ^ 32 - 1 }
         ensures added { OnOk result (self.new ≡ with_structure self.old s class pack) }
+        ensures grew { Grew self.old self.new }
         ensures unchanged { OnErr result (self.new ≡ self.old) }
     {
         let before = self.packs.len();
@@ -201,7 +214,8 @@ impl Tables {
 
     /// The lengths of the tables.
     pub fn mark(&self) -> TablesMark
-        ensures { result ≡ mark_of self.now }
+        ensures lengths { result ≡ mark_of self.now }
+        ensures whole { IsWhole self.now }
     {
         TablesMark {
             structures: self.structures.len() as u32,
@@ -214,8 +228,11 @@ impl Tables {
     }
 
     /// Cuts the tables back to the lengths of the mark.
+    #[tactic(auto, using(crate::proofs::GrowLemmas::gone_back))]
     pub fn undo(&mut self, mark: TablesMark)
-        ensures { self.new ≡ cut self.old mark }
+        ensures cut { self.new ≡ cut self.old mark }
+        ensures back { (old : Maps) → IsWhole old → mark ≡ mark_of old → Grew old self.old
+            → self.new ≡ old }
     {
         self.structures.truncate(mark.structures as usize);
         self.packs.truncate(mark.structures as usize);

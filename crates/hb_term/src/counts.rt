@@ -1,6 +1,6 @@
 //! The counts of a term, from those of its parts.
 ghost use Rattle.std.specs.Prelude.{◌≡◌, ◌≤◌, ◌-◌, ◌^◌, min};
-ghost use Rattle.hb_tree.specs.Tree.{loose, nodes, depth};
+ghost use Rattle.hb_tree.specs.Tree.{loose, nodes, depth, has_hole};
 ghost use Rattle.hb_term.specs.Meaning.{tree};
 
 use crate::term::Term;
@@ -53,6 +53,21 @@ impl Term {
             Term::Const(_) => 1,
             Term::Proj(_, _, t) => t.depth().saturating_add(1),
             Term::Hole(_) => 1,
+        }
+    }
+    /// Whether a hole stands in the term. It looks at the parts alone, and takes no walk.
+    pub fn has_hole(&self) -> bool
+        ensures { result ≡ has_hole (tree self.now) }
+    {
+        match self {
+            Term::Sort(_) => false,
+            Term::Rel(_) => false,
+            Term::Pi(a, b) => a.has_hole() || b.has_hole(),
+            Term::Lam(a, b) => a.has_hole() || b.has_hole(),
+            Term::App(f, a) => f.has_hole() || a.has_hole(),
+            Term::Const(_) => false,
+            Term::Proj(_, _, t) => t.has_hole(),
+            Term::Hole(_) => true,
         }
     }
 }

@@ -1,6 +1,6 @@
 //! Terms, whose parts are shared.
 ghost use Rattle.std.specs.Prelude.{◌≡◌, ◌≤◌, ◌-◌, ◌^◌, min, IfOk};
-ghost use Rattle.hb_tree.specs.Tree.{loose, nodes, depth};
+ghost use Rattle.hb_tree.specs.Tree.{loose, nodes, depth, has_hole};
 ghost use Rattle.hb_term.specs.Meaning.{tree};
 
 use hb_tree::{ConstId, RecId, Sort};
@@ -15,7 +15,7 @@ pub struct Part {
 }
 
 /// A term with its counts: one more than its greatest variable that isn't bound inside, its nodes and
-/// its depth, the last two up to the greatest number of their types.
+/// its depth, the last two up to the greatest number of their types; and whether it has a hole.
 #[cycle(term)]
 #[derive(Drop)]
 struct Node {
@@ -23,6 +23,7 @@ struct Node {
     loose: u64,
     nodes: u64,
     depth: u32,
+    has_hole: bool,
 }
 
 /// A term (Rocq manual, "Terms"). A variable is the number of binders between it and its own. The
@@ -54,7 +55,7 @@ impl Model for Part {
 
     ghost view = { λ p. tree p.node.value.term };
 
-    ghost invariant = { λ p. Counts (tree p.node.value.term) p.node.value.loose p.node.value.nodes p.node.value.depth };
+    ghost invariant = { λ p. Counts (tree p.node.value.term) p.node.value.loose p.node.value.nodes p.node.value.depth p.node.value.has_hole };
 
     ghost size = { depth };
 }
@@ -73,6 +74,7 @@ impl Drop for Part {
                         loose: _,
                         nodes: _,
                         depth: _,
+                        has_hole: _,
                     } = last;
                     match term {
                         Term::Sort(_s) => return,
@@ -109,11 +111,13 @@ impl Part {
         let loose = term.loose();
         let nodes = term.nodes();
         let depth = term.depth();
+        let has_hole = term.has_hole();
         let node = Node {
             term,
             loose,
             nodes,
             depth,
+            has_hole,
         };
         Ok(Part {
             node: Rc::new(alloc, node).map_err(AllocError::from)?,
@@ -156,5 +160,11 @@ impl Part {
         ensures { result ≡ min (depth self.now) (2 ^ 32 - 1) }
     {
         self.node.depth
+    }
+    /// Whether a hole stands inside. No walk.
+    pub fn has_hole(&self) -> bool
+        ensures { result ≡ has_hole self.now }
+    {
+        self.node.has_hole
     }
 }

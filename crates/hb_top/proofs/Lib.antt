@@ -1,2 +1,3 @@
-pub mod FormLemmas
-pub mod RunLemmas
+mod StayLemmas
+mod EndLemmas
+mod RunLemmas

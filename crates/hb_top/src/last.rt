@@ -1,62 +1,98 @@
-//! The last line of a run.
-ghost use Rattle.std.specs.Prelude.{◌≡◌, ◌≤◌, ◌⊎◌, Err, IfOk, OnErr, IsSome, map, string_bytes};
+//! The last line of a run that ended early.
+ghost use Rattle.std.specs.Prelude.{◌≡◌, ◌≤◌, ◌⊎◌, true, IfOk, OnErr, IsSome, string_bytes};
 ghost use Rattle.std.specs.Option.{option_map};
 ghost use Rattle.hb_io.specs.Causes.{Rose};
-ghost use Rattle.hb_top.specs.Report as report;
-ghost use Rattle.hb_top.specs.Run as spec;
-ghost use Rattle.hb_top.specs.Run.{Finishes};
-ghost use Rattle.hb_top.specs.Session.{state};
+ghost use Rattle.hb_session.specs.State.{state};
+ghost use Rattle.hb_top.specs.Report as spec;
+ghost use Rattle.hb_top.specs.Report.{IsWork};
+ghost use Rattle.hb_top.specs.Stops.{IsSourceFault};
 
 use crate::finish::end;
-use crate::session::Session;
 use crate::status::Status;
 use crate::stop::Stop;
 use hb_env::What;
 use hb_io::Sink;
 use hb_report::{event_line, refused_line};
+use hb_session::Session;
 use std::alloc::{AllocError, Global};
 
-/// Writes the last line of a run that ended so, where it has one.
-pub(crate) fn finish<K: Sink>(
+/// Writes the last line of a run that ended so, where it has one, with the names of the session.
+#[tactic(auto, using(crate::proofs::EndLemmas::told_work))]
+pub(crate) fn tell_stop<K: Sink>(
     alloc: Global,
-    files: &[&str],
     session: &Session,
-    ended: Result<(), Stop>,
+    stop: &Stop,
     out: &mut K,
 ) -> Status
-    ensures finishes { Finishes (spec.last_line (map (λ file. file.now) files.now) (state session.now) ended) (spec.status_of ended) (K.contents out.old) (K.contents out.new) result }
-    ensures sink { result ≡ Status.SinkFault → (ended ≡ Err Stop.SinkFault) ⊎ Rose (K.faults out.old) (K.faults out.new) }
+    ensures told { IsWork (K.contents out.new) result }
+    ensures sink { result ≡ Status.SinkFault →
+        (stop.now ≡ Stop.SinkFault) ⊎ Rose (K.faults out.old) (K.faults out.new) }
+    ensures source { result ≡ Status.SourceFault → IsSourceFault stop.now }
     ensures later { K.faults out.old ≤ K.faults out.new }
 {
-    let line = last_line(alloc, files, session, &ended);
-    let wanted = status_of(&ended);
-    discard(ended);
-    match line {
+    let wanted = status_of(stop);
+    let file = session.files.name(file_of(stop));
+    match last_line(alloc, session, stop, file) {
         Ok(Some(line)) => end(line.as_bytes(), wanted, out),
         Ok(None) => wanted,
         Err(_) => Status::NoMemory,
     }
 }
 
-/// Drops what a run ended with.
-fn discard(_ended: Result<(), Stop>) {}
+/// Tells that a run ended so, and keeps its refusal in the session, whose names and declarations it
+/// speaks of.
+pub(crate) fn stopped<K: Sink>(
+    alloc: Global,
+    session: &mut Session,
+    stop: Stop,
+    out: &mut K,
+) -> Status
+    ensures told { IsWork (K.contents out.new) result }
+    ensures sink { result ≡ Status.SinkFault →
+        (stop ≡ Stop.SinkFault) ⊎ Rose (K.faults out.old) (K.faults out.new) }
+    ensures source { result ≡ Status.SourceFault → IsSourceFault stop }
+    ensures later { K.faults out.old ≤ K.faults out.new }
+{
+    let status = tell_stop(alloc, session, &stop, out);
+    keep_fault(session, stop);
+    status
+}
+
+/// Keeps the refusal of a run that ended so.
+fn keep_fault(session: &mut Session, stop: Stop) {
+    match stop {
+        Stop::Refused(refusal) => session.fault = Some(refusal),
+        _ => {}
+    }
+}
+
+/// The number of the file at which a run stopped.
+fn file_of(stop: &Stop) -> u16 {
+    match stop {
+        Stop::Refused(refusal) => refusal.span.file,
+        Stop::SourceFault(file) => *file,
+        Stop::SinkFault => 0,
+        Stop::NoMemory => 0,
+    }
+}
 
 /// The status of a run that ended so.
-fn status_of(ended: &Result<(), Stop>) -> Status
-    ensures { result ≡ spec.status_of ended.now }
+fn status_of(stop: &Stop) -> Status
+    ensures same { result ≡ spec.status_of stop.now }
+    ensures early { spec.is_early result ≡ true }
 {
-    match ended {
-        Ok(()) => Status::Done,
-        Err(Stop::Refused(refusal)) => refused_status(&refusal.what),
-        Err(Stop::SourceFault(_)) => Status::SourceFault,
-        Err(Stop::SinkFault) => Status::SinkFault,
-        Err(Stop::NoMemory) => Status::NoMemory,
+    match stop {
+        Stop::Refused(refusal) => refused_status(&refusal.what),
+        Stop::SourceFault(_) => Status::SourceFault,
+        Stop::SinkFault => Status::SinkFault,
+        Stop::NoMemory => Status::NoMemory,
     }
 }
 
 /// The status of a refusal.
 fn refused_status(what: &What) -> Status
-    ensures { result ≡ spec.refused_status what.now }
+    ensures same { result ≡ spec.refused_status what.now }
+    ensures early { spec.is_early result ≡ true }
 {
     match what {
         What::Spent(_) => Status::Spent,
@@ -68,42 +104,23 @@ fn refused_status(what: &What) -> Status
 /// The last line of a run that ended so.
 fn last_line(
     alloc: Global,
-    files: &[&str],
     session: &Session,
-    ended: &Result<(), Stop>,
+    stop: &Stop,
+    file: &str,
 ) -> Result<Option<String>, AllocError>
-    ensures line { IfOk result (λ line. option_map string_bytes line ≡ spec.last_line (map (λ file. file.now) files.now) (state session.now) ended.now) }
-    ensures due { OnErr result (IsSome (spec.last_line (map (λ file. file.now) files.now) (state session.now) ended.now)) }
+    ensures line { IfOk result (λ line. option_map string_bytes line
+        ≡ spec.last_line (state session.now).back.names (state session.now).env file.now stop.now) }
+    ensures due { OnErr result (IsSome
+        (spec.last_line (state session.now).back.names (state session.now).env file.now stop.now)) }
 {
-    match ended {
-        Ok(()) => Ok(Some(accepted_line(alloc, session.entries.len())?)),
-        Err(Stop::Refused(refusal)) => {
-            let name = file_name(files, refusal.span.file);
-            let env = session.theory.env();
-            Ok(Some(refused_line(alloc, &session.names, env, name, refusal)?))
+    match stop {
+        Stop::Refused(refusal) => {
+            let env = session.theory().env();
+            let names = &session.world().names;
+            Ok(Some(refused_line(alloc, names, env, file, refusal)?))
         }
-        Err(Stop::SourceFault(file)) => {
-            Ok(Some(event_line(alloc, "fault", file_name(files, *file))?))
-        }
-        Err(Stop::SinkFault) => Ok(None),
-        Err(Stop::NoMemory) => Ok(None),
-    }
-}
-
-/// The last line of a run that was done.
-fn accepted_line(alloc: Global, count: usize) -> Result<String, AllocError>
-    ensures { IfOk result (λ line. string_bytes line ≡ report.accepted_line count) }
-{
-    let digits = format!(in alloc; "{count}")?;
-    event_line(alloc, "accepted", digits.as_str())
-}
-
-/// The name of a file of the run.
-fn file_name<'a>(files: &[&'a str], file: u16) -> &'a str
-    ensures { result.now ≡ report.file_name (map (λ file. file.now) files.now) file }
-{
-    match files.get(file as usize) {
-        Some(name) => name,
-        None => "",
+        Stop::SourceFault(_) => Ok(Some(event_line(alloc, "fault", file)?)),
+        Stop::SinkFault => Ok(None),
+        Stop::NoMemory => Ok(None),
     }
 }

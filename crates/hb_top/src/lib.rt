@@ -1,22 +1,25 @@
 //! The top call: sources in, checked declarations and a report out.
 #![tactic(auto)]
 
-mod command;
+mod certificate;
+mod client;
+mod compile;
+mod difference;
 mod finish;
 mod last;
-mod operator;
-mod session;
+mod library;
+mod refactor;
+mod sample;
+mod settings;
+mod show;
 mod source;
 mod status;
 mod stop;
+mod tell;
 mod top;
-mod words;
-mod work;
 
-pub use session::Session;
+pub use hb_session::Session;
+pub use hb_words::wanted_emitters;
 pub use status::Status;
 pub use stop::Stop;
 pub use top::run;
-
-#[cfg(test)]
-mod tests;

@@ -1,98 +1,348 @@
-//! The commands of a source.
-ghost use Rattle.std.specs.Prelude.{◌≡◌, ◌≤◌, List, ℕ, IfOk, IfErr, length};
-ghost use Rattle.hb_lex.specs.declared.token.Token as lex;
-ghost use Rattle.hb_lex.specs.Text.{HasTokens, rules};
-ghost use Rattle.hb_lex.specs.Places as places;
-ghost use Rattle.hb_parse.specs.Answers as grammar;
-ghost use Rattle.hb_parse.specs.Numbers.{Extends};
-ghost use Rattle.hb_raw.specs.Views.{sentences};
-ghost use Rattle.hb_top.specs.Source as spec;
-ghost use Rattle.hb_top.specs.Source.{IsSource, Malformed};
+//! Compiling sources.
+ghost use Rattle.std.specs.Prelude.{◌≡◌, ◌≤◌, IfOk, IfErr, Err, length};
+ghost use Rattle.hb_io.specs.Causes.{Rose};
+ghost use Rattle.hb_top.specs.Stops.{FilesStay, IsInner, IsSourceFault, IsTellable};
 
-use crate::operator::is_operator;
-use crate::stop::Stop;
-use hb_base::{Names, Span};
+use crate::certificate::declared_place;
+use crate::settings::Settings;
+use crate::stop::{Stop, of_refusal, refused};
+use crate::tell::report;
+use hb_base::{Count, Span};
+use hb_emit::Emitter;
 use hb_env::{Refusal, What};
-use hb_lex::{LexRefused, Token, tokens};
-use hb_parse::{ParseRefused, parse};
-use hb_raw::Command;
+use hb_io::{Depot, DepotFault, Sink, Whole, read_whole};
+use hb_raw::{Command, CommandKind, Word};
+use hb_session::{Session, Stage, at_byte, stops_at_notation};
 use std::alloc::Global;
 
-/// The most bytes of an identifier.
-const LONGEST: u32 = 255;
+/// The most bytes of a source: 1 MiB.
+pub(crate) const MOST_SOURCE: usize = 1_048_576;
 
-/// The place at a byte of a file.
-pub(crate) fn at_byte(file: u16, at: u32) -> Span
-    ensures { result ≡ spec.at_byte file at }
+/// The most turns that the sources of a run take: one for each command, and one for the end of each source.
+const MOST_TURNS: u64 = 64 * 1_048_577;
+
+/// The bytes of the file with the number, at most so many.
+pub(crate) fn read<D: Depot>(
+    alloc: Global,
+    depot: &mut D,
+    file: u16,
+    name: &str,
+    most: usize,
+) -> Result<Vec<u8>, Stop>
+    ensures fits { IfOk result (λ bytes. length bytes.items ≤ most) }
+    ensures depot_later { D.faults depot.old ≤ D.faults depot.new }
+    ensures source { IfErr result
+        (λ stop. IsSourceFault stop → Rose (D.faults depot.old) (D.faults depot.new)) }
+    ensures sink { IfErr result (λ stop. stop ≡ Stop.SinkFault → ⊥) }
+    ensures printed { IfErr result IsTellable }
+    ensures files { FilesStay (D.file depot.old) (D.file depot.new) }
 {
-    Span {
-        file,
-        from: at,
-        to: at,
+    match read_whole(alloc, depot, name, most) {
+        Ok(Whole::Bytes(bytes)) => Ok(bytes),
+        Ok(Whole::TooLong) => Err(refused(at_byte(file, 0), What::FileTooLong)),
+        Err(DepotFault::Absent) => Err(refused(at_byte(file, 0), What::Absent)),
+        Err(DepotFault::Failed) => Err(Stop::SourceFault(file)),
+        Err(DepotFault::NoMemory) => Err(Stop::NoMemory),
     }
 }
 
-/// A refusal at a place.
-pub(crate) fn refused(span: Span, what: What) -> Stop
-    ensures { result ≡ Stop.Refused (record { span = span; what = what }) }
-{
-    Stop::Refused(Refusal { span, what })
+/// A source whose commands are being taken.
+#[derive(Drop)]
+struct Reading {
+    file: u16,
+    /// How many bytes it has.
+    length: u32,
+    /// The commands that are left, the next one last.
+    rest: Vec<Command>,
+    /// The name that asked for it, where a command did.
+    required: Option<Word>,
 }
 
-/// The commands of the source with the number `file`.
-pub(crate) fn commands_of(
-    alloc: Global,
+/// Compiles a source of the command line into the session, and in place each source that it requires.
+pub(crate) fn compile_source<D: Depot, K: Sink>(
+    settings: Settings,
+    session: &mut Session,
+    depot: &mut D,
+    out: &mut K,
+    emitters: &mut Vec<Box<dyn Emitter>>,
+    name: &str,
+) -> Result<(), Stop>
+    ensures depot_later { D.faults depot.old ≤ D.faults depot.new }
+    ensures sink_later { K.faults out.old ≤ K.faults out.new }
+    ensures source { IfErr result
+        (λ stop. IsSourceFault stop → Rose (D.faults depot.old) (D.faults depot.new)) }
+    ensures sink { result ≡ Err Stop.SinkFault → Rose (K.faults out.old) (K.faults out.new) }
+    ensures printed { IfErr result IsTellable }
+    ensures files { FilesStay (D.file depot.old) (D.file depot.new) }
+{
+    if !session.files.has_room() {
+        let file = session.files.begin(name, Stage::Other)?;
+        return Err(refused(at_byte(file, 0), What::TooMany(Count::Files)));
+    }
+    let file = session.files.begin(name, Stage::Reading)?;
+    let bytes = match read(settings.alloc, depot, file, name, MOST_SOURCE) {
+        Ok(bytes) => bytes,
+        Err(stop) => return Err(stop),
+    };
+    compile_bytes(
+        settings,
+        session,
+        depot,
+        out,
+        emitters,
+        file,
+        bytes.as_slice(),
+    )
+}
+
+/// Compiles the bytes of a source that was begun, and in place each source that it requires.
+pub(crate) fn compile_bytes<D: Depot, K: Sink>(
+    settings: Settings,
+    session: &mut Session,
+    depot: &mut D,
+    out: &mut K,
+    emitters: &mut Vec<Box<dyn Emitter>>,
     file: u16,
     bytes: &[u8],
-    names: &mut Names,
-) -> Result<Vec<Command>, Stop>
+) -> Result<(), Stop>
     requires { length bytes.now ≤ 1048576 }
-    ensures source { IfOk result (λ commands. IsSource file bytes.now names.new (sentences commands.items)) }
-    ensures malformed { IfErr result (Malformed file bytes.now names.new) }
-    ensures kept { Extends names.old names.new }
+    ensures depot_later { D.faults depot.old ≤ D.faults depot.new }
+    ensures sink_later { K.faults out.old ≤ K.faults out.new }
+    ensures source { IfErr result
+        (λ stop. IsSourceFault stop → Rose (D.faults depot.old) (D.faults depot.new)) }
+    ensures sink { result ≡ Err Stop.SinkFault → Rose (K.faults out.old) (K.faults out.new) }
+    ensures printed { IfErr result IsTellable }
+    ensures files { FilesStay (D.file depot.old) (D.file depot.new) }
 {
-    let tokens = match tokens(alloc, bytes, file, LONGEST) {
-        Ok(tokens) => tokens,
-        Err(fault) => return Err(no_tokens(file, bytes, fault)),
+    let first = match read_source(session, file, bytes, None) {
+        Ok(first) => first,
+        Err(stop) => return Err(stop),
     };
-    match parse(alloc, bytes, tokens.as_slice(), names) {
+    let mut stack = Vec::new(settings.alloc);
+    stack.push(first)?;
+    take_all(settings, session, depot, out, emitters, stack)
+}
+
+/// The commands of a source of the session, which is read whole.
+fn read_source(
+    session: &mut Session,
+    file: u16,
+    bytes: &[u8],
+    required: Option<Word>,
+) -> Result<Reading, Stop>
+    requires { length bytes.now ≤ 1048576 }
+    ensures { IfErr result IsInner }
+{
+    let mut rest = match commands(session, file, bytes) {
+        Ok(commands) => commands,
+        Err(refusal) => return Err(of_refusal(refusal)),
+    };
+    rest.reverse();
+    Ok(Reading {
+        file,
+        length: bytes.len() as u32,
+        rest,
+        required,
+    })
+}
+
+/// The commands of a source, with or without notations.
+fn commands(session: &mut Session, file: u16, bytes: &[u8]) -> Result<Vec<Command>, Refusal>
+    requires { length bytes.now ≤ 1048576 }
+{
+    match session.commands(file, bytes) {
         Ok(commands) => Ok(commands),
-        Err(fault) => Err(no_sentences(fault)),
+        Err(refusal) => noted_commands(session, file, bytes, refusal),
     }
 }
 
-/// The refusal of bytes that have no tokens.
-fn no_tokens(file: u16, bytes: &[u8], fault: LexRefused) -> Stop
-    requires { places.Refuses (rules file 255) bytes.now fault }
-    ensures { (N : List (List ℕ)) → Malformed file bytes.now N result }
-{
-    match fault {
-        LexRefused::Utf8 { at } => refused(at_byte(file, at), What::Utf8),
-        LexRefused::Lex { at } => no_token(file, bytes, at),
-        LexRefused::NoMemory => Stop::NoMemory,
-    }
-}
-
-/// The refusal of a byte with which no token goes on: operators aren't built yet.
-fn no_token(file: u16, bytes: &[u8], at: u32) -> Stop
-    requires { places.Refuses (rules file 255) bytes.now (LexRefused.Lex at) }
-    ensures { (N : List (List ℕ)) → Malformed file bytes.now N result }
-{
-    if is_operator(bytes, at) {
-        refused(at_byte(file, at), What::NotYet)
+/// The commands of a source that was refused so without notations.
+fn noted_commands(
+    session: &mut Session,
+    file: u16,
+    bytes: &[u8],
+    refusal: Refusal,
+) -> Result<Vec<Command>, Refusal> {
+    if stops_at_notation(bytes, &refusal) {
+        session.noted_commands(file, bytes)
     } else {
-        refused(at_byte(file, at), What::Lex)
+        Err(refusal)
     }
 }
 
-/// The refusal of tokens that have no sentences.
-fn no_sentences(fault: ParseRefused) -> Stop
-    ensures { (i : ℕ) (bytes : List ℕ) (N : List (List ℕ)) (ts : List lex.Token) → HasTokens (rules i 255) bytes ts → grammar.Refuses N bytes ts fault → Malformed i bytes N result }
+/// Takes the commands of the sources of the stack, of which the last is read first.
+fn take_all<D: Depot, K: Sink>(
+    settings: Settings,
+    session: &mut Session,
+    depot: &mut D,
+    out: &mut K,
+    emitters: &mut Vec<Box<dyn Emitter>>,
+    stack: Vec<Reading>,
+) -> Result<(), Stop>
+    ensures depot_later { D.faults depot.old ≤ D.faults depot.new }
+    ensures sink_later { K.faults out.old ≤ K.faults out.new }
+    ensures source { IfErr result
+        (λ stop. IsSourceFault stop → Rose (D.faults depot.old) (D.faults depot.new)) }
+    ensures sink { result ≡ Err Stop.SinkFault → Rose (K.faults out.old) (K.faults out.new) }
+    ensures printed { IfErr result IsTellable }
+    ensures files { FilesStay (D.file depot.old) (D.file depot.new) }
 {
-    match fault {
-        ParseRefused::Syntax { at } => refused(at, What::Syntax),
-        ParseRefused::TooDeep { at } => refused(at, What::TooDeep),
-        ParseRefused::TooMany { count, at } => refused(at, What::TooMany(count)),
-        ParseRefused::NoMemory => Stop::NoMemory,
+    let mut stack = stack;
+    'turns: for _ in 0..MOST_TURNS {
+        let Some(now) = stack.pop() else {
+            return Ok(());
+        };
+        match turn(settings, session, depot, out, emitters, &mut stack, now) {
+            Ok(()) => {}
+            Err(stop) => return Err(stop),
+        }
+    }
+    Err(Stop::NoMemory)
+}
+
+/// Takes the next command of a source, or ends it; what is left of it, and what it requires, goes onto
+/// the stack.
+fn turn<D: Depot, K: Sink>(
+    settings: Settings,
+    session: &mut Session,
+    depot: &mut D,
+    out: &mut K,
+    emitters: &mut Vec<Box<dyn Emitter>>,
+    stack: &mut Vec<Reading>,
+    now: Reading,
+) -> Result<(), Stop>
+    ensures depot_later { D.faults depot.old ≤ D.faults depot.new }
+    ensures sink_later { K.faults out.old ≤ K.faults out.new }
+    ensures source { IfErr result
+        (λ stop. IsSourceFault stop → Rose (D.faults depot.old) (D.faults depot.new)) }
+    ensures sink { result ≡ Err Stop.SinkFault → Rose (K.faults out.old) (K.faults out.new) }
+    ensures printed { IfErr result IsTellable }
+    ensures files { FilesStay (D.file depot.old) (D.file depot.new) }
+{
+    let mut now = now;
+    let Some(command) = now.rest.pop() else {
+        return end(settings, session, out, emitters, &now);
+    };
+    stack.push(now)?;
+    match &command.kind {
+        CommandKind::Require { name } => {
+            match require(settings, session, depot, command.span, *name) {
+                Ok(Some(required)) => {
+                    stack.push(required)?;
+                    Ok(())
+                }
+                Ok(None) => take_required(settings, session, out, emitters, *name),
+                Err(stop) => Err(stop),
+            }
+        }
+        _ => take(settings, session, out, emitters, &command),
+    }
+}
+
+/// Ends a source, and takes the command that required it. In a section it is refused at its end.
+fn end<K: Sink>(
+    settings: Settings,
+    session: &mut Session,
+    out: &mut K,
+    emitters: &mut Vec<Box<dyn Emitter>>,
+    now: &Reading,
+) -> Result<(), Stop>
+    ensures sink_later { K.faults out.old ≤ K.faults out.new }
+    ensures source { IfErr result (λ stop. IsSourceFault stop → ⊥) }
+    ensures sink { result ≡ Err Stop.SinkFault → Rose (K.faults out.old) (K.faults out.new) }
+    ensures printed { IfErr result IsTellable }
+{
+    if session.is_in_section() {
+        return Err(refused(at_byte(now.file, now.length), What::SectionOpen));
+    }
+    session.files.end(now.file);
+    match now.required {
+        Some(name) => take_required(settings, session, out, emitters, name),
+        None => Ok(()),
+    }
+}
+
+/// Takes a command that requires no file, and reports it.
+fn take<K: Sink>(
+    settings: Settings,
+    session: &mut Session,
+    out: &mut K,
+    emitters: &mut Vec<Box<dyn Emitter>>,
+    command: &Command,
+) -> Result<(), Stop>
+    ensures sink_later { K.faults out.old ≤ K.faults out.new }
+    ensures source { IfErr result (λ stop. IsSourceFault stop → ⊥) }
+    ensures sink { result ≡ Err Stop.SinkFault → Rose (K.faults out.old) (K.faults out.new) }
+    ensures printed { IfErr result IsTellable }
+{
+    let from = session.theory().env().len();
+    match session.take(command, &settings.limits) {
+        Ok(event) => {
+            let to = session.theory().env().len();
+            if from < to {
+                session.files.declare(from, to, declared_place(command))?;
+            }
+            report(settings, session, &event, out, emitters)
+        }
+        Err(refusal) => Err(of_refusal(refusal)),
+    }
+}
+
+/// Takes a command whose required file was compiled, and reports it.
+fn take_required<K: Sink>(
+    settings: Settings,
+    session: &mut Session,
+    out: &mut K,
+    emitters: &mut Vec<Box<dyn Emitter>>,
+    name: Word,
+) -> Result<(), Stop>
+    ensures sink_later { K.faults out.old ≤ K.faults out.new }
+    ensures source { IfErr result (λ stop. IsSourceFault stop → ⊥) }
+    ensures sink { result ≡ Err Stop.SinkFault → Rose (K.faults out.old) (K.faults out.new) }
+    ensures printed { IfErr result IsTellable }
+{
+    match session.take_require(name) {
+        Ok(event) => report(settings, session, &event, out, emitters),
+        Err(refusal) => Err(of_refusal(refusal)),
+    }
+}
+
+/// The source that a command requires, where it wasn't compiled before. In a section the command is
+/// refused at its first word; a file that is being read, and one file too many, at the name.
+fn require<D: Depot>(
+    settings: Settings,
+    session: &mut Session,
+    depot: &mut D,
+    span: Span,
+    name: Word,
+) -> Result<Option<Reading>, Stop>
+    ensures depot_later { D.faults depot.old ≤ D.faults depot.new }
+    ensures source { IfErr result
+        (λ stop. IsSourceFault stop → Rose (D.faults depot.old) (D.faults depot.new)) }
+    ensures sink { IfErr result (λ stop. stop ≡ Stop.SinkFault → ⊥) }
+    ensures printed { IfErr result IsTellable }
+    ensures files { FilesStay (D.file depot.old) (D.file depot.new) }
+{
+    if session.is_in_section() {
+        return Err(refused(span, What::SectionOpen));
+    }
+    let source = session.source_name(name.name)?;
+    if session.files.is(source.as_str(), Stage::Reading) {
+        return Err(refused(name.span, What::RequireCycle(name.name)));
+    }
+    if session.files.is(source.as_str(), Stage::Compiled) {
+        return Ok(None);
+    }
+    if !session.files.has_room() {
+        return Err(refused(name.span, What::TooMany(Count::Files)));
+    }
+    let file = session.files.begin(source.as_str(), Stage::Reading)?;
+    let bytes = match read(settings.alloc, depot, file, source.as_str(), MOST_SOURCE) {
+        Ok(bytes) => bytes,
+        Err(stop) => return Err(stop),
+    };
+    match read_source(session, file, bytes.as_slice(), Some(name)) {
+        Ok(required) => Ok(Some(required)),
+        Err(stop) => Err(stop),
     }
 }

@@ -20,10 +20,12 @@ pub enum Status {
     Spent,
     /// 6: out of memory.
     NoMemory,
+    /// 7: all was done, but some texts were lost.
+    EmitLost,
 }
 
 impl Status {
-    /// The number of the status, from 0 to 6, which the program ends with.
+    /// The number of the status, from 0 to 7, which the program ends with.
     pub fn number(self) -> u8
         ensures { result ≡ status_number self }
     {
@@ -35,6 +37,7 @@ impl Status {
             Status::SinkFault => 4,
             Status::Spent => 5,
             Status::NoMemory => 6,
+            Status::EmitLost => 7,
         }
     }
 }

@@ -1,7 +1,9 @@
 //! Why a run ends early.
 ghost use Rattle.std.specs.Prelude.{◌≡◌};
+ghost use Rattle.hb_top.specs.Stops.{IsInner};
 
-use hb_env::Refusal;
+use hb_base::Span;
+use hb_env::{Refusal, What};
 use std::alloc::{AllocError, AllocFailed};
 
 /// Why a run ends before its work is done.
@@ -33,5 +35,22 @@ impl<T: Drop> From<AllocFailed<T>> for Stop {
 
     fn from(_: AllocFailed<T>) -> Stop {
         Stop::NoMemory
+    }
+}
+
+/// A refusal at a place.
+pub(crate) fn refused(span: Span, what: What) -> Stop
+    ensures { result ≡ Stop.Refused (record { span = span; what = what }) }
+{
+    Stop::Refused(Refusal { span, what })
+}
+
+/// The end of a run at a refused command: out of memory is told apart.
+pub(crate) fn of_refusal(refusal: Refusal) -> Stop
+    ensures { IsInner result }
+{
+    match refusal.what {
+        What::NoMemory => Stop::NoMemory,
+        _ => Stop::Refused(refusal),
     }
 }

@@ -1,1 +1,3 @@
+pub mod BoundLemmas
+pub mod EntryLemmas
 pub mod PieceLemmas

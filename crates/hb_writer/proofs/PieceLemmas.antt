@@ -1,23 +1,23 @@
 -- Pieces on a stack, whose last piece comes first.
-use Rattle.std.proofs.Common.{◌≡◌, ℕ, ◌+◌, ◌<◌, List, [], ◌∷◌, ◌++◌, length, take, min, refl, ap, ◌∙◌, sym, arith}
+use Rattle.std.proofs.Common.{◌≡◌, ℕ, ◌+◌, ◌<◌, List, [], ◌∷◌, ◌++◌, Option, length, take, min, refl, ap, ◌∙◌, sym, arith}
 use Rattle.std.proofs.lemmas.List.{append_assoc, append-nil, take_all, length-take}
 use Rattle.hb_calculus.specs.Declarations.{Decl}
 use Rattle.hb_writer.specs.declared.piece.Piece.{Piece}
 use Rattle.hb_writer.specs.Pieces.{piece_text, pieces_text, stack_text, weight, weights}
 
-pub stack_more : (N : List (List ℕ)) (E : List Decl) (ps : List Piece) (p : Piece) → stack_text N E (ps ++ (p ∷ [])) ≡ piece_text N E p ++ stack_text N E ps
-stack_more N E [] p = sym (append-nil (piece_text N E p))
-stack_more N E (q ∷ ps) p =
-    ap (λ l. l ++ piece_text N E q) (stack_more N E ps p) ∙ append_assoc (piece_text N E p) (stack_text N E ps) (piece_text N E q)
+pub stack_more : (N : List (List ℕ)) (E : List Decl) (B : List (Option ℕ)) (ps : List Piece) (p : Piece) → stack_text N E B (ps ++ (p ∷ [])) ≡ piece_text N E B p ++ stack_text N E B ps
+stack_more N E B [] p = sym (append-nil (piece_text N E B p))
+stack_more N E B (q ∷ ps) p =
+    ap (λ l. l ++ piece_text N E B q) (stack_more N E B ps p) ∙ append_assoc (piece_text N E B p) (stack_text N E B ps) (piece_text N E B q)
 
 pub weights_more : (ps : List Piece) (p : Piece) → weights (ps ++ (p ∷ [])) ≡ weight p + weights ps
 weights_more [] p = refl
 weights_more (q ∷ ps) p = omega (arith, weights_more ps p)
 
-pub pieces_before : (N : List (List ℕ)) (E : List Decl) (p : Piece) (ps : List Piece) (l : List ℕ)
-    → pieces_text N E (p ∷ ps) ++ l ≡ piece_text N E p ++ (pieces_text N E ps ++ l)
-pieces_before N E p [] l = refl
-pieces_before N E p (q ∷ ps) l = append_assoc (piece_text N E p) (pieces_text N E (q ∷ ps)) l
+pub pieces_before : (N : List (List ℕ)) (E : List Decl) (B : List (Option ℕ)) (p : Piece) (ps : List Piece) (l : List ℕ)
+    → pieces_text N E B (p ∷ ps) ++ l ≡ piece_text N E B p ++ (pieces_text N E B ps ++ l)
+pieces_before N E B p [] l = refl
+pieces_before N E B p (q ∷ ps) l = append_assoc (piece_text N E B p) (pieces_text N E B (q ∷ ps)) l
 
 -- a text is whole where its front is longer than it
 pub whole_front : (m : ℕ) (s t : List ℕ) → length s < m → take m s ≡ take m t → s ≡ t

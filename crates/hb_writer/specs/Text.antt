@@ -1,6 +1,7 @@
 -- The text of a term. A variable is written by the number of binders outside of its own, and an arrow
 -- counts as a binder.
-use Rattle.std.specs.Prelude.{ℕ, ◌+◌, ◌-◌, Bool, true, false, cond, List, [], ◌∷◌, ◌++◌, Option, None, Some, slice_get, codes}
+use Rattle.std.specs.Prelude.{ℕ, ◌+◌, ◌-◌, Bool, true, false, cond, List, [], ◌∷◌, ◌++◌, Option, None, Some, map, option_map, slice_get, codes}
+use Rattle.hb_base.specs.declared.name_id.NameId.{NameId}
 use Rattle.std.specs.Fmt.{decimal}
 use Rattle.hb_tree.specs.Tree.{Tree, sort, rel, pi, lam, app, const, proj, hole, occurs}
 use Rattle.hb_tree.specs.declared.leaves.Sort.{Sort}
@@ -34,6 +35,23 @@ text_or_number None k = number_text k
 abbrev pub name_text : List (List ℕ) → Option ℕ → ℕ → List ℕ
 name_text N (Some n) k = text_or_number (slice_get N n) k
 name_text N None k = number_text k
+
+-- The outermost variables may have names, as the earlier fields of a record have in the types of the
+-- later ones: B tells them, the outermost first.
+abbrev pub at_bound : Option (Option ℕ) → Option ℕ
+at_bound (Some b) = b
+at_bound None = None
+
+abbrev pub bound_name : List (Option ℕ) → ℕ → Option ℕ
+bound_name [] d = None
+bound_name (b ∷ bs) d = at_bound (slice_get (b ∷ bs) d)
+
+abbrev pub bound_names : List (Option NameId) → List (Option ℕ)
+bound_names bs = map (option_map (λ n. n.0)) bs
+
+abbrev pub bound_text : List (List ℕ) → Option ℕ → ℕ → List ℕ
+bound_text N (Some n) d = text_or_number (slice_get N n) n
+bound_text N None d = variable_text d
 
 -- whether a term is a product or a function
 abbrev pub is_binder : Tree → Bool
@@ -77,14 +95,19 @@ product_text false left d domain codomain = joined (opening left ∷ domain ∷ 
 abbrev pub projection_text : (compound : Bool) → (value field : List ℕ) → List ℕ
 projection_text compound value field = joined (opening compound ∷ value ∷ closing compound ∷ codes ".(" ∷ field ∷ codes ")" ∷ [])
 
--- the text of a term under d binders, with these names and this environment
+-- the text of a term under d binders, of which the outermost have the names B, with these names and
+-- this environment
+abbrev pub text_in : List (List ℕ) → List Decl → List (Option ℕ) → ℕ → Tree → List ℕ
+text_in N E B d (sort s) = sort_text s
+text_in N E B d (rel v) = bound_text N (bound_name B (d - 1 - v)) (d - 1 - v)
+text_in N E B d (pi a b) = product_text (occurs b 0) (is_binder a) d (text_in N E B d a) (text_in N E B (d + 1) b)
+text_in N E B d (lam a b) = binder_text (codes "fun _") (codes " => ") d (text_in N E B d a) (text_in N E B (d + 1) b)
+text_in N E B d (app f a) =
+    joined (opening (is_binder f) ∷ text_in N E B d f ∷ closing (is_binder f) ∷ codes " " ∷ opening (is_compound a) ∷ text_in N E B d a ∷ closing (is_compound a) ∷ [])
+text_in N E B d (const c) = name_text N (const_name (slice_get E c.decl) c) c.decl
+text_in N E B d (proj r i t) = projection_text (is_compound t) (text_in N E B d t) (name_text N (field_name (slice_get E r.0) i) r.0)
+text_in N E B d (hole h) = joined (codes "?" ∷ decimal h ∷ [])
+
+-- the text of a term under d binders without names
 abbrev pub text : List (List ℕ) → List Decl → ℕ → Tree → List ℕ
-text N E d (sort s) = sort_text s
-text N E d (rel v) = variable_text (d - 1 - v)
-text N E d (pi a b) = product_text (occurs b 0) (is_binder a) d (text N E d a) (text N E (d + 1) b)
-text N E d (lam a b) = binder_text (codes "fun _") (codes " => ") d (text N E d a) (text N E (d + 1) b)
-text N E d (app f a) =
-    joined (opening (is_binder f) ∷ text N E d f ∷ closing (is_binder f) ∷ codes " " ∷ opening (is_compound a) ∷ text N E d a ∷ closing (is_compound a) ∷ [])
-text N E d (const c) = name_text N (const_name (slice_get E c.decl) c) c.decl
-text N E d (proj r i t) = projection_text (is_compound t) (text N E d t) (name_text N (field_name (slice_get E r.0) i) r.0)
-text N E d (hole h) = joined (codes "?" ∷ decimal h ∷ [])
+text N E d t = text_in N E [] d t

@@ -1,6 +1,6 @@
-use crate::{term_front, term_text};
+use crate::{Kind, entry_text, term_front, term_text};
 use hb_base::Names;
-use hb_env::Env;
+use hb_env::{Decl, Entry, Env, Head};
 use hb_term::{ConstId, RecId, Scoped, Sort, Term};
 use std::alloc::{AllocError, Global};
 use std::test::*;
@@ -109,5 +109,23 @@ fn a_chain_of_projections_takes_no_stack(rt: HostRuntime) -> Result<(), Fail> {
     let alloc = rt.alloc();
     let text = text_of(alloc, chain(alloc)?, 0)?;
     assert_eq!(rt; text.as_bytes().len(), 2 + 250_000 * 5);
+    Ok(())
+}
+
+#[test]
+fn an_entry_has_the_text_of_its_declarations(rt: HostRuntime) -> Result<(), Fail> {
+    let alloc = rt.alloc();
+    let (mut names, env) = declared(alloc)?;
+    let mut decls = Vec::new(alloc);
+    decls.push(Decl::Axiom {
+        name: names.number("nat")?,
+        ty: Term::Sort(Sort::Prop),
+    })?;
+    let entry = Entry {
+        head: Head::Axiom,
+        decls,
+    };
+    let text = entry_text(alloc, &names, &env, &entry, Kind::Rocq)?;
+    assert_eq!(rt; text.as_str(), "Axiom nat : Prop.\n");
     Ok(())
 }

@@ -16,6 +16,7 @@ pub use samples::{
     COUPLE, DOUBLE, EMPTY, ITSELF, NATURAL, NEXT, ONE, OTHER, PAIR, SAME, World, ZERO, constant,
     maker,
 };
+pub use stage::{eta_step, step};
 
 #[cfg(test)]
 mod tests;

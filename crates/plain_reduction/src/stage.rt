@@ -1,6 +1,6 @@
 //! One step of a whole term, from its root.
 ghost use Rattle.std.specs.Prelude.{◌≡◌, IfOk, option_map};
-ghost use Rattle.hb_calculus.specs.Contraction.{leftmost, head_step};
+ghost use Rattle.hb_calculus.specs.Contraction.{leftmost, head_step, next, next_eta};
 ghost use Rattle.hb_calculus.specs.Sequence.{move};
 ghost use Rattle.plain_reduction.specs.Plain.{rule_of, stage};
 
@@ -113,4 +113,18 @@ pub(crate) fn head_step(alloc: Global, env: &Env, part: &Part) -> Result<Option<
         },
         _ => Ok(None),
     }
+}
+
+/// The term after the leftmost outermost step; `None` where there is none.
+pub fn step(alloc: Global, env: &Env, part: &Part) -> Result<Option<Part>, AllocError>
+    ensures { IfOk result (λ o. o ≡ next env.now part.now) }
+{
+    leftmost(alloc, env, Phase::Stepping, part)
+}
+
+/// The term after the leftmost outermost eta contraction; `None` where there is none.
+pub fn eta_step(alloc: Global, env: &Env, part: &Part) -> Result<Option<Part>, AllocError>
+    ensures { IfOk result (λ o. o ≡ next_eta env.now part.now) }
+{
+    leftmost(alloc, env, Phase::Contracting, part)
 }

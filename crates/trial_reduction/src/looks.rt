@@ -72,8 +72,8 @@ fn deep(rt: &HostRuntime, env: &Env) -> io::Result<()> {
     compare(rt, env, (&first, &again), 0, aim)?;
     let other = Term::app(alloc, constant(SAME), doubling(alloc)?)?;
     let second = closed(repeated(alloc, NEXT, 1_000, other)?)?;
-    let aim = "alike at depth 1000, with two steps";
-    compare(rt, env, (&first, &second), 2, aim)
+    let aim = "alike at depth 1000, with a thousand steps";
+    compare(rt, env, (&first, &second), 1_000, aim)
 }
 
 /// Two doublings of different constants.

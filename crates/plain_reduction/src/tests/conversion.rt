@@ -156,10 +156,10 @@ fn the_later_constant_is_unfolded_first(rt: HostRuntime) -> Result<(), Fail> {
         decl: ZERO,
         maker: false,
     };
-    let near = world.chain(zero, 999).map_err(|_e| "declared")?;
+    let near = world.chain(zero, 2_999).map_err(|_e| "declared")?;
     let last = world.chain(near, 1).map_err(|_e| "declared")?;
-    let few = limits(10, 10, 10);
-    let many = limits(1_000, 10, 10);
+    let few = limits(1_000, 10, 10);
+    let many = limits(3_000, 10, 10);
     for (a, b, limits, want) in [
         (last, near, &few, Outcome::Yes),
         (near, last, &few, Outcome::Yes),
@@ -194,7 +194,7 @@ fn deep_applications_are_compared_with_no_normal_form(rt: HostRuntime) -> Result
     let world = World::new(alloc).map_err(|_e| "declared")?;
     let env = &world.env;
     let none = limits(0, 1, 1);
-    let few = limits(2, 10_000, 2_000);
+    let few = limits(1_000, 10_000, 2_000);
     for (redex, limits) in [(false, &none), (true, &few)] {
         let first = deep(alloc, false)?;
         let answer = converts(alloc, env, first, deep(alloc, redex)?, limits)?;
@@ -220,7 +220,7 @@ fn eta_is_found_on_the_way(rt: HostRuntime) -> Result<(), Fail> {
     let alloc = rt.alloc();
     let world = World::new(alloc).map_err(|_e| "declared")?;
     let env = &world.env;
-    let few = limits(8, 10_000, 2_000);
+    let few = limits(1_000, 10_000, 2_000);
     let long = expanded(alloc, growing(alloc, true)?)?;
     let answer = converts(alloc, env, long, growing(alloc, false)?, &few)?;
     assert_eq!(rt; answer, Outcome::Yes);

@@ -14,6 +14,7 @@ use Rattle.hb_parse.proofs.FileLemmas.{no_token, token_at, agrees-old, extends-m
 use Rattle.hb_parse.proofs.NamesLemmas.{Named, named-none, named-step, named-ended, named-all}
 use Rattle.hb_parse.specs.declared.error.ParseRefused.TheVariants.{Syntax}
 use Rattle.hb_parse.proofs.Exact.{form_only}
+use Rattle.hb_parse.proofs.Tied.{tied_at, tied}
 use Rattle.hb_parse.proofs.file.parse.Goals as goal
 use Rattle.hb_parse.proofs.file.parse.Goals.{in-Ok-finished+in_ok-push-in-Ok-finished, in-Err-finished}
 
@@ -124,3 +125,33 @@ returns-in-Err-clause-none c =
 pub returns-else-whole-clause-none : goal.returns-else-whole-clause-none
 returns-else-whole-clause-none c =
     form_only c.loop-i.names c.args.bytes.now c.args.tokens.now (Syntax c.place.result) (returns-else-whole-clause-refused c)
+
+pub returns-in-Err-clause-tied : goal.returns-in-Err-clause-tied
+returns-in-Err-clause-tied c =
+    let bytes = c.args.bytes.now in
+    let ts = c.args.tokens.now in
+    let i = c.loop-i.i in
+    let t = get_or ts i no_token in
+    let l = c.loop-i-test.true in
+    tied_at bytes ts i c.args.names.now c.loop-i.names (sentences c.loop-i.commands.items) (state c.loop-i.state) c.loop-i.invariant.came c.loop-i.invariant.named
+    t c.turn.new.names l (token_at ts i no_token t l) c.in-Err.ensures.kept (rw c.piece-text.ensures at c.in-Err.ensures.parts)
+
+pub returns-then-whole-clause-tied : goal.returns-then-whole-clause-tied
+returns-then-whole-clause-tied c =
+    tied c.args.bytes.now c.args.tokens.now c.loop-i.i c.args.names.now c.loop-i.names (sentences c.loop-i.commands.items) (state c.loop-i.state)
+    c.loop-i.invariant.came c.loop-i.invariant.named
+
+pub returns-else-whole-clause-tied : goal.returns-else-whole-clause-tied
+returns-else-whole-clause-tied c =
+    tied c.args.bytes.now c.args.tokens.now c.loop-i.i c.args.names.now c.loop-i.names (sentences c.loop-i.commands.items) (state c.loop-i.state)
+    c.loop-i.invariant.came c.loop-i.invariant.named
+
+pub returns-in_err-push-in-Ok-finished-clause-tied : goal.returns-in_err-push-in-Ok-finished-clause-tied
+returns-in_err-push-in-Ok-finished-clause-tied c =
+    let bytes = c.args.bytes.now in
+    let ts = c.args.tokens.now in
+    let i = c.loop-i.i in
+    let t = get_or ts i no_token in
+    let l = c.loop-i-test.true in
+    tied_at bytes ts i c.args.names.now c.loop-i.names (sentences c.loop-i.commands.items) (state c.loop-i.state) c.loop-i.invariant.came c.loop-i.invariant.named
+    t c.turn.new.names l (token_at ts i no_token t l) c.in-Ok.ensures.kept (rw c.piece-text.ensures at c.in-Ok.ensures.parts)

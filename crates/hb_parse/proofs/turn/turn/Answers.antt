@@ -61,3 +61,9 @@ returns-in-Ok-clause-counted c =
 
 pub returns-in-Err-clause-counted : goal.returns-in-Err-clause-counted
 returns-in-Err-clause-counted c = IfOk-weaker c.overfull.result _ _ (λ s h. absurd h) c.overfull.ensures.never
+
+pub returns-in-Ok-clause-parts : goal.returns-in-Ok-clause-parts
+returns-in-Ok-clause-parts c = c.numbers.ensures.parts
+
+pub returns-in-Err-clause-parts : goal.returns-in-Err-clause-parts
+returns-in-Err-clause-parts c = c.numbers.ensures.parts

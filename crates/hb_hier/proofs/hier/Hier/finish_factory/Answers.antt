@@ -22,6 +22,7 @@ invariant_of-self-2 c =
       few_structures = old.few_structures;
       joined = old.joined;
       asked = old.asked;
+      ordered = old.ordered;
       ended_once = distinct-after c.self.inside.endings.items _ _ c.in_ok-push.ensures.items old.ended_once
           (omega (arith, subst (λ (h : Hierarchy). c.args.f.0 < length h.factories) (sym view) c.requires, old.few_factories))
           (subst (λ (h : Hierarchy). ended h.endings c.args.f.0 ≡ false) (sym view) (sym c.ended.ensures ∙ c.if-ended.false));

@@ -13,6 +13,7 @@ invariant_of-self-2 c =
       few_structures = old.few_structures;
       ended_once = old.ended_once;
       joined = old.joined;
+      ordered = old.ordered;
       asked = below-after (length c.self.inside.structures.items) c.self.inside.givings _ (record { carrier = c.args.carrier; giving = record { binders = c.args.binders.now; gives = c.args.gives } })
           c.in_ok-push.ensures.added old.asked
           (subst (λ (h : Hierarchy). BindersBelow (length h.structures) c.args.binders.now) (sym c.self.view_is) c.requires.declared);

@@ -1,0 +1,2 @@
+-- what the crate's own functions promise each other
+pub mod Ways

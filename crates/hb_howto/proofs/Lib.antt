@@ -1,0 +1,3 @@
+pub mod CandidateLemmas
+pub mod PartLemmas
+pub mod WayLemmas

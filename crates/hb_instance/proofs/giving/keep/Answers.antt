@@ -1,0 +1,19 @@
+use Rattle.std.proofs.Common.{refl, subst}
+use Rattle.std.specs.Option.{option_map}
+use Rattle.hb_tables.proofs.GrowLemmas as tables
+use Rattle.hb_step.proofs.SinceLemmas.{section_same}
+use Rattle.hb_step.specs.Marks.{SectionGrew}
+use Rattle.hb_world.specs.Worlds.{background, opened}
+use Rattle.hb_instance.proofs.GrowLemmas.{grown_parts}
+use Rattle.hb_instance.proofs.giving.keep.Goals as goal
+
+pub returns-in_err-give_constant : goal.returns-in_err-give_constant
+returns-in_err-give_constant c = grown_parts (background c.args.world.now) _ refl c.give_constant.ensures (tables.grew_same _ _ refl) (section_same _)
+
+pub returns-in_err-enter_at : goal.returns-in_err-enter_at
+returns-in_err-enter_at c = grown_parts (background c.args.world.now) _ refl c.give_constant.ensures c.enter_at.ensures (section_same _)
+
+pub returns : goal.returns
+returns c =
+    grown_parts (background c.args.world.now) _ refl c.give_constant.ensures c.enter_at.ensures
+    (subst (λ o. SectionGrew (option_map opened o) (option_map opened c.grown_section-section.result.0)) c.replace-open.ensures.value c.grown_section-section.ensures)

@@ -1,0 +1,4 @@
+use Rattle.hb_libfile.proofs.item.Decoder.+part.Given as goal
+
+abbrev pub decreases-part : goal.decreases-part
+decreases-part l = l.depth

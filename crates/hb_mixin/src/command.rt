@@ -1,0 +1,162 @@
+//! Taking a command.
+ghost use Rattle.std.specs.Prelude.{◌≡◌, ◌++◌, IfOk, OnErr};
+ghost use Rattle.hb_env.specs.Plain.{plains};
+ghost use Rattle.hb_raw.specs.Views.{act};
+ghost use Rattle.hb_world.specs.Worlds.{background, IsAsBefore};
+ghost use Rattle.hb_world.specs.Taking.{Extends, HasGrown, HasAdded, HasHead};
+ghost use Rattle.hb_mixin.specs.Heads.{HasNames, head_for};
+
+use crate::declaring::{Kind, Naming, declare};
+use crate::fields::{elaborate, full_names, short_names};
+use hb_base::{Limits, NameId, Span};
+use hb_env::{Entry, Head, Refusal, What};
+use hb_items::{check_items, item_names};
+use hb_kernel::Theory;
+use hb_raw::{Command, CommandKind, Field, Item, Word};
+use hb_step::{not_reserved, not_reserved_part, not_taken, outside_section, refused};
+use hb_world::{Done, World};
+use std::alloc::Global;
+use std::vec::Vec;
+
+/// A mixin or a factory as it is written.
+#[derive(Clone, Copy)]
+pub(crate) struct Written<'a> {
+    pub kind: Kind,
+    pub name: Word,
+    pub carrier: Word,
+    pub items: &'a [Item],
+    pub fields: &'a [Field],
+}
+
+/// Takes a mixin or a factory. Refused in this order: `SectionOpen`; `ReservedName` of its name and of its
+/// fields'; `Redeclared` of its name; for each item `UnknownFactory`, `Unfinished`, `NotCarrier`; the faults
+/// of its fields' types; `Redeclared` of the names of its record; `TooMany`; and what the kernel refuses.
+/// Where it is refused, nothing changes but names.
+pub fn apply(
+    alloc: Global,
+    theory: &mut Theory,
+    world: &mut World,
+    taken: &Command,
+    limits: &Limits,
+) -> Result<Done, Refusal>
+    ensures unchanged { OnErr result (theory.new ≡ theory.old) }
+    ensures as_before { OnErr result (IsAsBefore (background world.old) (background world.new)) }
+    ensures grown { IfOk result (HasGrown theory.old theory.new) }
+    ensures names { Extends world.old.names world.new.names }
+    ensures head { IfOk result (HasHead (act taken.now.kind)) }
+{
+    match &taken.kind {
+        CommandKind::Mixin {
+            name,
+            carrier,
+            items,
+            fields,
+        } => {
+            let written = Written {
+                kind: Kind::Mixin,
+                name: *name,
+                carrier: *carrier,
+                items,
+                fields,
+            };
+            match take(alloc, theory, world, taken.span, written, limits) {
+                Ok(entry) => Ok(Done::Entry(entry)),
+                Err(refusal) => Err(refusal),
+            }
+        }
+        CommandKind::Factory {
+            name,
+            carrier,
+            items,
+            fields,
+        } => {
+            let written = Written {
+                kind: Kind::Factory,
+                name: *name,
+                carrier: *carrier,
+                items,
+                fields,
+            };
+            match take(alloc, theory, world, taken.span, written, limits) {
+                Ok(entry) => Ok(Done::Entry(entry)),
+                Err(refusal) => Err(refusal),
+            }
+        }
+        CommandKind::Axiom { .. }
+        | CommandKind::Definition { .. }
+        | CommandKind::Builders { .. }
+        | CommandKind::End
+        | CommandKind::Structure { .. }
+        | CommandKind::Instance { .. }
+        | CommandKind::Join { .. }
+        | CommandKind::Find { .. }
+        | CommandKind::Require { .. }
+        | CommandKind::Howto { .. }
+        | CommandKind::About { .. } => Err(refused(taken.span, What::NotYet)),
+    }
+}
+
+/// Takes what is written.
+fn take(
+    alloc: Global,
+    theory: &mut Theory,
+    world: &mut World,
+    span: Span,
+    written: Written<'_>,
+    limits: &Limits,
+) -> Result<Entry, Refusal>
+    ensures unchanged { OnErr result (theory.new ≡ theory.old) }
+    ensures as_before { OnErr result (IsAsBefore (background world.old) (background world.new)) }
+    ensures grown { IfOk result (HasAdded theory.old theory.new) }
+    ensures names { Extends world.old.names world.new.names }
+    ensures head { IfOk result (λ e. HasNames written.entry.kind written.entry.items.now e.head) }
+{
+    outside_section(world, span)?;
+    check_written_names(theory, world, written)?;
+    check_items(&world.hier, written.items, written.carrier)?;
+    let place = written.name.span;
+    let Ok(items) = item_names(alloc, written.items) else {
+        return Err(refused(place, What::NoMemory));
+    };
+    let types = elaborate(alloc, theory, world, written, &items, limits)?;
+    let Ok(shorts) = short_names(alloc, written.fields) else {
+        return Err(refused(place, What::NoMemory));
+    };
+    let fields = full_names(alloc, &mut world.names, written.name, &shorts, types)?;
+    let naming = Naming {
+        kind: written.kind,
+        name: written.name.name,
+        items: &items,
+        shorts: &shorts,
+    };
+    let decls = declare(alloc, theory, world, naming, fields, None, place, limits)?;
+    Ok(Entry {
+        head: head_of(written.kind, items),
+        decls,
+    })
+}
+
+/// Its name and its fields' aren't kept, and its name is new.
+fn check_written_names(
+    theory: &Theory,
+    world: &World,
+    written: Written<'_>,
+) -> Result<(), Refusal> {
+    let name = written.name;
+    not_reserved(&world.names, name.name, name.span)?;
+    not_reserved_part(&world.names, name.name, name.span)?;
+    for field in written.fields {
+        not_reserved_part(&world.names, field.name.name, field.name.span)?;
+    }
+    not_taken(theory.env(), &world.hier, name.name, name.span)
+}
+
+/// The head of its entry.
+fn head_of(kind: Kind, items: Vec<NameId>) -> Head
+    ensures { result ≡ head_for kind items }
+{
+    match kind {
+        Kind::Mixin => Head::Mixin { items },
+        Kind::Factory => Head::Factory { items },
+    }
+}

@@ -1,0 +1,10 @@
+//! Mixins and factories.
+#![tactic(auto)]
+
+mod command;
+mod declaring;
+mod fields;
+mod replaying;
+
+pub use command::apply;
+pub use replaying::replay;

@@ -1,0 +1,11 @@
+pub mod ListedLemmas
+pub mod PlaceLemmas
+pub mod DependentLemmas
+pub mod NamingLemmas
+pub mod LookLemmas
+pub mod CoercionLemmas
+pub mod OperationLemmas
+pub mod ShapeLemmas
+pub mod ArgumentLemmas
+pub mod RoleLemmas
+pub mod TakenLemmas

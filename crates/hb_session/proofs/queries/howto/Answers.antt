@@ -1,0 +1,5 @@
+use Rattle.std.proofs.Common.{refl, inl, inr, sym, ◌∙◌}
+use Rattle.hb_session.proofs.queries.howto.Goals as goal
+
+pub returns-in-Ok : goal.returns-in-Ok
+returns-in-Ok c = inr (c.in-Ok.lists, refl)

@@ -1,0 +1,7 @@
+-- what public contracts rest on
+pub mod Reserved
+pub mod Naming
+pub mod Closing
+pub mod Kernel
+pub mod Adding
+pub mod Marks

@@ -1,0 +1,9 @@
+//! Structures.
+#![tactic(auto)]
+
+mod command;
+mod declaring;
+mod replaying;
+
+pub use command::apply;
+pub use replaying::replay;

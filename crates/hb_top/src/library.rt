@@ -1,0 +1,210 @@
+//! Loading libraries and core texts, and saving libraries.
+ghost use Rattle.std.specs.Prelude.{◌≡◌, ◌≤◌, IfErr, Err};
+ghost use Rattle.hb_io.specs.Causes.{Rose};
+ghost use Rattle.hb_top.specs.Stops.{FilesStay, OthersStay, IsSourceFault, IsTellable, IsInner};
+
+use crate::settings::Settings;
+use crate::source::read;
+use crate::stop::{Stop, of_refusal};
+use crate::tell::{emit, tell, write};
+use hb_base::NameId;
+use hb_emit::Emitter;
+use hb_env::{Decl, Entry, Head, Places};
+use hb_events::Event;
+use hb_io::{Depot, DepotFault, Sink};
+use hb_session::{Session, Stage};
+use std::alloc::{AllocError, Global};
+
+/// The most bytes of a library: 512 MiB.
+pub(crate) const MOST_LIBRARY: usize = 536_870_912;
+
+/// The most bytes of a core text: 64 MiB.
+const MOST_CORE: usize = 67_108_864;
+
+/// Loads a library into an empty session: each entry is taken as it was when it was saved.
+pub(crate) fn load<D: Depot, K: Sink>(
+    settings: Settings,
+    session: &mut Session,
+    depot: &mut D,
+    out: &mut K,
+    emitters: &mut Vec<Box<dyn Emitter>>,
+    name: &str,
+) -> Result<(), Stop>
+    ensures depot_later { D.faults depot.old ≤ D.faults depot.new }
+    ensures sink_later { K.faults out.old ≤ K.faults out.new }
+    ensures source { IfErr result
+        (λ stop. IsSourceFault stop → Rose (D.faults depot.old) (D.faults depot.new)) }
+    ensures sink { result ≡ Err Stop.SinkFault → Rose (K.faults out.old) (K.faults out.new) }
+    ensures printed { IfErr result IsTellable }
+    ensures files { FilesStay (D.file depot.old) (D.file depot.new) }
+{
+    let file = session.files.begin(name, Stage::Other)?;
+    let bytes = match read(settings.alloc, depot, file, name, MOST_LIBRARY) {
+        Ok(bytes) => bytes,
+        Err(stop) => return Err(stop),
+    };
+    let entries = match session.library(file, bytes.as_slice()) {
+        Ok(entries) => entries,
+        Err(refusal) => return Err(of_refusal(refusal)),
+    };
+    drop(bytes);
+    let count = entries.len();
+    for (entry, places) in entries {
+        match load_entry(settings, session, emitters, entry, &places) {
+            Ok(()) => {}
+            Err(stop) => return Err(stop),
+        }
+    }
+    if !settings.aloud {
+        return Ok(());
+    }
+    let line = format!(in settings.alloc; "library {name}: {count}\n")?;
+    match write(out, line.as_str()) {
+        Ok(()) => {}
+        Err(stop) => return Err(stop),
+    }
+    session.files.lines = session.files.lines.saturating_add(1);
+    Ok(())
+}
+
+/// Takes one entry of a library. A file that was required counts as compiled.
+fn load_entry(
+    settings: Settings,
+    session: &mut Session,
+    emitters: &mut Vec<Box<dyn Emitter>>,
+    entry: Entry,
+    places: &Places,
+) -> Result<(), Stop>
+    ensures { IfErr result IsInner }
+{
+    let required = required_by(&entry);
+    match session.replay(entry, places, &settings.limits) {
+        Ok(()) => {}
+        Err(refusal) => return Err(of_refusal(refusal)),
+    }
+    match required {
+        Some(name) => {
+            let source = session.source_name(name)?;
+            session.files.note(source)?;
+        }
+        None => {}
+    }
+    if settings.aloud {
+        match emit(settings.alloc, session, emitters) {
+            Ok(()) => {}
+            Err(stop) => return Err(stop),
+        }
+    }
+    Ok(())
+}
+
+/// The name that the entry requires.
+fn required_by(entry: &Entry) -> Option<NameId> {
+    match &entry.head {
+        Head::Require { name } => Some(*name),
+        _ => None,
+    }
+}
+
+/// Reads a core text and adds its declarations in order, each as an entry of its own.
+pub(crate) fn core<D: Depot, K: Sink>(
+    settings: Settings,
+    session: &mut Session,
+    depot: &mut D,
+    out: &mut K,
+    emitters: &mut Vec<Box<dyn Emitter>>,
+    name: &str,
+) -> Result<(), Stop>
+    ensures depot_later { D.faults depot.old ≤ D.faults depot.new }
+    ensures sink_later { K.faults out.old ≤ K.faults out.new }
+    ensures source { IfErr result
+        (λ stop. IsSourceFault stop → Rose (D.faults depot.old) (D.faults depot.new)) }
+    ensures sink { result ≡ Err Stop.SinkFault → Rose (K.faults out.old) (K.faults out.new) }
+    ensures printed { IfErr result IsTellable }
+    ensures files { FilesStay (D.file depot.old) (D.file depot.new) }
+{
+    let file = session.files.begin(name, Stage::Other)?;
+    let bytes = match read(settings.alloc, depot, file, name, MOST_CORE) {
+        Ok(bytes) => bytes,
+        Err(stop) => return Err(stop),
+    };
+    let decls = match session.core_text(file, bytes.as_slice()) {
+        Ok(decls) => decls,
+        Err(refusal) => return Err(of_refusal(refusal)),
+    };
+    drop(bytes);
+    'decls: for (decl, span) in decls {
+        let declared = declared_by(&decl);
+        let places = Places {
+            span,
+            count: span.from,
+            decls: places_of(settings.alloc, span.from)?,
+        };
+        let entry = core_entry(settings.alloc, decl)?;
+        match session.replay(entry, &places, &settings.limits) {
+            Ok(()) => {}
+            Err(refusal) => return Err(of_refusal(refusal)),
+        }
+        match emit(settings.alloc, session, emitters) {
+            Ok(()) => {}
+            Err(stop) => return Err(stop),
+        }
+        match tell(settings, session, &Event::Core(declared), out) {
+            Ok(()) => {}
+            Err(stop) => return Err(stop),
+        }
+    }
+    Ok(())
+}
+
+/// The entry of a declaration of a core text.
+fn core_entry(alloc: Global, decl: Decl) -> Result<Entry, AllocError> {
+    let mut decls = Vec::new(alloc);
+    decls.push(decl)?;
+    Ok(Entry {
+        head: Head::Core,
+        decls,
+    })
+}
+
+/// One place.
+fn places_of(alloc: Global, at: u32) -> Result<Vec<u32>, AllocError> {
+    let mut places = Vec::new(alloc);
+    places.push(at)?;
+    Ok(places)
+}
+
+/// The declared name of a declaration.
+fn declared_by(decl: &Decl) -> NameId {
+    match decl {
+        Decl::Axiom { name, .. } => *name,
+        Decl::Def { name, .. } => *name,
+        Decl::Record { name, .. } => *name,
+    }
+}
+
+/// Saves bytes under a name, which gets a number among the files of the session, and then tells it.
+pub(crate) fn save<D: Depot, K: Sink>(
+    session: &mut Session,
+    depot: &mut D,
+    out: &mut K,
+    name: &str,
+    bytes: &[u8],
+    line: &str,
+) -> Result<(), Stop>
+    ensures depot_later { D.faults depot.old ≤ D.faults depot.new }
+    ensures sink_later { K.faults out.old ≤ K.faults out.new }
+    ensures source { IfErr result
+        (λ stop. IsSourceFault stop → Rose (D.faults depot.old) (D.faults depot.new)) }
+    ensures sink { result ≡ Err Stop.SinkFault → Rose (K.faults out.old) (K.faults out.new) }
+    ensures printed { IfErr result IsTellable }
+    ensures files { OthersStay name.now (D.file depot.old) (D.file depot.new) }
+{
+    let file = session.files.begin(name, Stage::Other)?;
+    match depot.save(name, bytes) {
+        Ok(()) => write(out, line),
+        Err(DepotFault::Failed) => Err(Stop::SourceFault(file)),
+        Err(DepotFault::NoMemory) => Err(Stop::NoMemory),
+        Err(DepotFault::Absent) => Err(Stop::NoMemory),
+    }
+}

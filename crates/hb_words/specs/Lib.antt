@@ -1,0 +1,3 @@
+pub mod Jobs
+-- what the crate's own functions promise each other
+pub mod Rows
