@@ -5,6 +5,7 @@ mod certificate;
 mod client;
 mod compile;
 mod difference;
+mod emitters;
 mod finish;
 mod last;
 mod library;

@@ -11,6 +11,7 @@ ghost use Rattle.hb_words.specs.Jobs.{IsAllowed};
 
 use crate::certificate::{save_certificate, verify_certificate};
 use crate::compile::{accepted, compile_files};
+use crate::emitters::drop_failed;
 use crate::finish::{finish_all, usage};
 use crate::last::stopped;
 use crate::library::{core, save};
@@ -20,7 +21,7 @@ use crate::settings::{Settings, limits_of};
 use crate::show::show_file;
 use crate::status::Status;
 use crate::stop::Stop;
-use hb_emit::{Emitter, drop_failed};
+use hb_emit::Emitter;
 use hb_io::{Depot, Sink};
 use hb_order::joins_are_unique;
 use hb_session::Session;
