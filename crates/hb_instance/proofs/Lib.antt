@@ -1,1 +1,2 @@
 pub mod GrowLemmas
+pub mod GiveLemmas

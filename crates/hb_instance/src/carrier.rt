@@ -1,4 +1,8 @@
 //! What can be a carrier outside a section.
+ghost use Rattle.std.specs.Prelude.{◌≡◌, IfOk, Some};
+ghost use Rattle.hb_env.specs.Naming.{name_in};
+ghost use Rattle.hb_env.specs.declared.named.Named.TheVariants.{Const};
+
 use hb_base::{Limits, NameId};
 use hb_env::{Env, Named, What};
 use hb_reduce::{ReduceRefused, whnf};
@@ -13,7 +17,9 @@ pub(crate) fn carrier_of(
     name: NameId,
     count: usize,
     limits: &Limits,
-) -> Result<ConstId, What> {
+) -> Result<ConstId, What>
+    ensures { IfOk result (λ k. name_in env.now (Const k) ≡ Some name.0) }
+{
     let Ok(count) = u32::try_from(count) else {
         return Err(What::NotCarrier(name));
     };

@@ -4,6 +4,7 @@ ghost use Rattle.hb_env.specs.Plain.{plains};
 ghost use Rattle.hb_hier.specs.Undoing as hiers;
 ghost use Rattle.hb_tables.specs.Growing as growing;
 ghost use Rattle.hb_world.specs.Worlds.{background, IsAsBefore};
+ghost use Rattle.hb_instance.specs.Giving.{after};
 ghost use Rattle.hb_instance.specs.Growing.{HasGrown};
 
 use crate::coherent::{Constants, check_coherent};
@@ -50,7 +51,9 @@ pub(crate) fn prepare(
     value: Term,
     spots: Spots,
 ) -> Result<Prepared, Refusal>
-    ensures { HasGrown (background world.old) (background world.new) }
+    ensures grown { HasGrown (background world.old) (background world.new) }
+    ensures gave { OnOk result (world.new.hier ≡ after world.old.hier allowed.now.target
+        allowed.now.factory) }
 {
     let own = give(alloc, env, world, allowed, name, value, spots)?;
     let taken = take(alloc, env, world, allowed, &own, spots)?;
@@ -67,7 +70,9 @@ fn give(
     value: Term,
     spots: Spots,
 ) -> Result<Pack, Refusal>
-    ensures { HasGrown (background world.old) (background world.new) }
+    ensures grown { HasGrown (background world.old) (background world.new) }
+    ensures gave { OnOk result (world.new.hier ≡ after world.old.hier allowed.now.target
+        allowed.now.factory) }
 {
     let named = name.is_some();
     let own = given(alloc, env, world, allowed, name, value, spots.place)?;
@@ -84,7 +89,8 @@ fn take(
     own: &Pack,
     spots: Spots,
 ) -> Result<Pack, Refusal>
-    ensures { HasGrown (background world.old) (background world.new) }
+    ensures grown { HasGrown (background world.old) (background world.new) }
+    ensures same { world.new.hier ≡ world.old.hier }
 {
     let taken = taken(alloc, env, world, allowed, spots.place)?;
     enter_after(&mut world.tables, env, own, &taken.roles, spots.factory)?;
@@ -182,7 +188,9 @@ fn keep(
     named: bool,
     factory: Span,
 ) -> Result<(), Refusal>
-    ensures { HasGrown (background world.old) (background world.new) }
+    ensures grown { HasGrown (background world.old) (background world.new) }
+    ensures gave { OnOk result (world.new.hier ≡ after world.old.hier allowed.now.target
+        allowed.now.factory) }
 {
     give_constant(&mut world.hier, allowed, factory)?;
     enter_at(&mut world.tables, env.len(), &own.roles, factory)?;
@@ -217,7 +225,8 @@ fn more_made(made: u32, count: usize, named: bool) -> u32 {
 /// Gives at a constant.
 #[tactic(auto, using(hb_hier::proofs::GrewLemmas::grew_same))]
 fn give_constant(hier: &mut Hier, allowed: &Allowed, factory: Span) -> Result<(), Refusal>
-    ensures { hiers.Grew hier.old hier.new }
+    ensures grew { hiers.Grew hier.old hier.new }
+    ensures gave { OnOk result (hier.new ≡ after hier.old allowed.now.target allowed.now.factory) }
 {
     let Target::Constant(k, binders) = &allowed.target else {
         return Ok(());

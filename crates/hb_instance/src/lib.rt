@@ -1,6 +1,7 @@
 //! Instances: of mixins and of factories, at constants under binders and at the carriers of sections.
 #![tactic(auto)]
 
+mod allowing;
 mod carrier;
 mod coherent;
 mod command;

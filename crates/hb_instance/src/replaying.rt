@@ -1,12 +1,13 @@
 //! Taking an entry of a library.
-ghost use Rattle.std.specs.Prelude.{◌≡◌, ◌++◌, OnOk, OnErr};
+ghost use Rattle.std.specs.Prelude.{◌≡◌, ◌++◌, map, IfOk, OnOk, OnErr};
 ghost use Rattle.hb_env.specs.Plain.{plains};
 ghost use Rattle.hb_world.specs.Worlds.{background, IsAsBefore};
 ghost use Rattle.hb_world.specs.Taking.{Extends};
 ghost use Rattle.hb_step.specs.Marks.{Since};
+ghost use Rattle.hb_instance.specs.Giving.{after, asked, asked_by, HasInstanceOf, IsTarget};
 
+use crate::allowing::{at_constant, in_section, known_factory, structure_named};
 use crate::carrier::carrier_of;
-use crate::command::{at_constant, in_section, known_factory, structure_named};
 use crate::giving::{Spots, prepare, settle};
 use crate::keeping::decl_name;
 use crate::target::{Allowed, Target};
@@ -33,6 +34,7 @@ struct Heading<'a> {
 /// Takes the entry of an instance, as `apply` takes the command. A refusal stands at the entry; where its
 /// declarations aren't those that the instance makes it is `BadLibrary`, at their count, or at the first
 /// that differs.
+#[tactic(auto, using(crate::proofs::GiveLemmas::gives_at))]
 pub fn replay(
     alloc: Global,
     theory: &mut Theory,
@@ -45,6 +47,9 @@ pub fn replay(
     ensures as_before { OnErr result (IsAsBefore (background world.old) (background world.new)) }
     ensures grown { OnOk result (theory.new ≡ theory.old ++ plains entry.now.decls.items) }
     ensures names { Extends world.old.names world.new.names }
+    ensures hier { OnOk result
+        (HasInstanceOf entry.now.head (background world.old).section theory.old world.old.hier
+        world.new.hier) }
 {
     let Head::Instance {
         factory,
@@ -90,6 +95,8 @@ fn both(
 ) -> Result<(), Refusal>
     ensures since { Since theory.old (background world.old) theory.new (background world.new) }
     ensures grown { OnOk result (theory.new ≡ theory.old ++ plains entry.now.decls.items) }
+    ensures gave { OnOk result (world.new.hier ≡ after world.old.hier allowed.now.target
+        allowed.now.factory) }
 {
     let spots = Spots {
         place: places.span,
@@ -142,7 +149,12 @@ fn allowed_by_head(
     heading: Heading<'_>,
     places: &Places,
     limits: &Limits,
-) -> Result<Allowed, Refusal> {
+) -> Result<Allowed, Refusal>
+    ensures target { IfOk result (λ a. IsTarget (background world.now).section theory.now
+        heading.entry.carrier
+        (asked world.now.hier heading.entry.binders.now) a.target) }
+    ensures factory { IfOk result (λ a. a.factory ≡ heading.entry.factory) }
+{
     let span = places.span;
     let asked = asked_structures(alloc, &world.hier, heading.binders, places)?;
     let known = known_factory(&world.hier, heading.factory, span)?;
@@ -171,18 +183,31 @@ fn asked_structures(
     hier: &Hier,
     binders: &[Option<NameId>],
     places: &Places,
-) -> Result<Vec<Option<StructId>>, Refusal> {
+) -> Result<Vec<Option<StructId>>, Refusal>
+    ensures { IfOk result (λ v. v.items ≡ asked hier.now binders.now) }
+{
     let mut asked = Vec::new(alloc);
     for binder in binders {
-        let structure = match binder {
-            None => None,
-            Some(name) => Some(structure_named(hier, *name, places.span)?),
-        };
+        let structure = asked_structure(hier, *binder, places)?;
         let Ok(()) = asked.push(structure) else {
             return Err(refused(places.span, What::NoMemory));
         };
     }
     Ok(asked)
+}
+
+/// The structure that one binder asks.
+fn asked_structure(
+    hier: &Hier,
+    binder: Option<NameId>,
+    places: &Places,
+) -> Result<Option<StructId>, Refusal>
+    ensures { IfOk result (λ s. s ≡ asked_by hier.now binder) }
+{
+    match binder {
+        None => Ok(None),
+        Some(name) => Ok(Some(structure_named(hier, name, places.span)?)),
+    }
 }
 
 /// The value of the entry's first declaration, taken out of the functions over the variables of the place.

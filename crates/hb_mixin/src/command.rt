@@ -1,9 +1,11 @@
 //! Taking a command.
-ghost use Rattle.std.specs.Prelude.{◌≡◌, ◌++◌, IfOk, OnErr};
+ghost use Rattle.std.specs.Prelude.{◌≡◌, ◌++◌, map, IfOk, OnOk, OnErr};
 ghost use Rattle.hb_env.specs.Plain.{plains};
 ghost use Rattle.hb_raw.specs.Views.{act};
 ghost use Rattle.hb_world.specs.Worlds.{background, IsAsBefore};
-ghost use Rattle.hb_world.specs.Taking.{Extends, HasGrown, HasAdded, HasHead};
+ghost use Rattle.hb_world.specs.Taking.{factory_names, Extends, HasGrown, HasAdded, HasHead};
+ghost use Rattle.hb_mixin.specs.Adding.{with_kind};
+ghost use Rattle.hb_mixin.specs.Declaring.{HasDeclared};
 ghost use Rattle.hb_mixin.specs.Heads.{HasNames, head_for};
 
 use crate::declaring::{Kind, Naming, declare};
@@ -44,6 +46,7 @@ pub fn apply(
     ensures grown { IfOk result (HasGrown theory.old theory.new) }
     ensures names { Extends world.old.names world.new.names }
     ensures head { IfOk result (HasHead (act taken.now.kind)) }
+    ensures hier { OnOk result (HasDeclared (act taken.now.kind) world.old.hier world.new.hier) }
 {
     match &taken.kind {
         CommandKind::Mixin {
@@ -110,6 +113,9 @@ fn take(
     ensures grown { IfOk result (HasAdded theory.old theory.new) }
     ensures names { Extends world.old.names world.new.names }
     ensures head { IfOk result (λ e. HasNames written.entry.kind written.entry.items.now e.head) }
+    ensures hier { OnOk result
+        (world.new.hier ≡ with_kind written.entry.kind world.old.hier written.entry.name.name
+        (factory_names written.entry.items.now) (map (λ f. f.name.name) written.entry.fields.now)) }
 {
     outside_section(world, span)?;
     check_written_names(theory, world, written)?;

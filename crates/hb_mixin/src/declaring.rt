@@ -51,7 +51,8 @@ pub(crate) fn declare(
     ensures grown { IfOk result (λ ds. theory.new ≡ theory.old ++ plains ds.items) }
     ensures names { Extends world.old.names world.new.names }
     ensures hier { OnOk result
-        (world.new.hier ≡ with_kind naming.entry.kind world.old.hier naming.entry.name naming.entry.items.now naming.entry.shorts.now) }
+        (world.new.hier ≡ with_kind naming.entry.kind world.old.hier naming.entry.name
+        naming.entry.items.now naming.entry.shorts.now) }
 {
     let decls = record_for(alloc, theory.env(), world, naming, fields, level, place)?;
     check_made_names(theory.env(), &world.hier, &decls, place)?;
@@ -220,7 +221,8 @@ pub(crate) fn add(
     ensures grown { IfOk result (λ ds. theory.new ≡ theory.old ++ plains ds.items) }
     ensures kept { least ≡ false → IfOk result (λ ds. plains ds.items ≡ plains decls.items) }
     ensures hier { OnOk result
-        (hier.new ≡ with_kind naming.entry.kind hier.old naming.entry.name naming.entry.items.now naming.entry.shorts.now) }
+        (hier.new ≡ with_kind naming.entry.kind hier.old naming.entry.name naming.entry.items.now
+        naming.entry.shorts.now) }
 {
     let before = theory.env().len();
     let added = add_records(alloc, theory, decls, least, place, limits)?;
@@ -237,7 +239,8 @@ pub(crate) fn add(
 fn add_to_hierarchy(hier: &mut Hier, naming: Naming<'_>, place: Span) -> Result<(), Refusal>
     ensures hier_same { OnErr result (hier.new ≡ hier.old) }
     ensures hier { OnOk result
-        (hier.new ≡ with_kind naming.entry.kind hier.old naming.entry.name naming.entry.items.now naming.entry.shorts.now) }
+        (hier.new ≡ with_kind naming.entry.kind hier.old naming.entry.name naming.entry.items.now
+        naming.entry.shorts.now) }
 {
     if hier.known(naming.name).is_some() {
         return Err(refused(place, What::Redeclared(naming.name)));

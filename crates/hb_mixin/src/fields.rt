@@ -1,4 +1,5 @@
 //! The fields of mixins and factories.
+ghost use Rattle.std.specs.Prelude.{◌≡◌, map, IfOk};
 ghost use Rattle.hb_world.specs.Taking.{Extends};
 
 use crate::command::Written;
@@ -161,7 +162,9 @@ fn whole_text(
 }
 
 /// The names of the fields, as they are written.
-pub(crate) fn short_names(alloc: Global, fields: &[Field]) -> Result<Vec<NameId>, AllocError> {
+pub(crate) fn short_names(alloc: Global, fields: &[Field]) -> Result<Vec<NameId>, AllocError>
+    ensures { IfOk result (λ ns. ns.items ≡ map (λ f. f.name.name) fields.now) }
+{
     let mut names = Vec::new(alloc);
     for field in fields {
         names.push(field.name.name)?;

@@ -3,6 +3,8 @@ ghost use Rattle.std.specs.Prelude.{◌≡◌, ◌++◌, OnOk, OnErr};
 ghost use Rattle.hb_env.specs.Plain.{plains};
 ghost use Rattle.hb_world.specs.Worlds.{background, IsAsBefore};
 ghost use Rattle.hb_world.specs.Taking.{Extends};
+ghost use Rattle.hb_mixin.specs.Adding.{with_kind};
+ghost use Rattle.hb_mixin.specs.Declaring.{HasDeclaredOf};
 
 use crate::declaring::{
     Kind, Naming, add, check_counts, check_made_names, maker_name, numbered, record_for, text_of,
@@ -42,6 +44,7 @@ pub fn replay(
     ensures as_before { OnErr result (IsAsBefore (background world.old) (background world.new)) }
     ensures grown { OnOk result (theory.new ≡ theory.old ++ plains entry.now.decls.items) }
     ensures names { Extends world.old.names world.new.names }
+    ensures hier { OnOk result (HasDeclaredOf entry.now.head world.old.hier world.new.hier) }
 {
     let (kind, items) = match &entry.head {
         Head::Mixin { items } => (Kind::Mixin, items),
@@ -96,6 +99,9 @@ fn declare_loaded(
     ensures as_before { OnErr result (IsAsBefore (background world.old) (background world.new)) }
     ensures grown { OnOk result (theory.new ≡ theory.old ++ plains entry.now.decls.items) }
     ensures names { Extends world.old.names world.new.names }
+    ensures hier { OnOk result
+        (world.new.hier ≡ with_kind naming.entry.kind world.old.hier naming.entry.name
+        naming.entry.items.now naming.entry.shorts.now) }
 {
     let span = places.span;
     let decls = record_for(

@@ -1,5 +1,5 @@
 -- What queries answer.
-use Rattle.std.specs.Prelude.{◌≡◌, ◌⊎◌, ℕ, Option, None, Some}
+use Rattle.std.specs.Prelude.{◌≡◌, ℕ, Option, None, Some}
 use Rattle.hb_base.specs.declared.name_id.NameId.{NameId}
 use Rattle.hb_env.specs.declared.refusal.Refusal.{Refusal}
 use Rattle.hb_env.specs.declared.refusal.What.TheVariants.{UnknownName}

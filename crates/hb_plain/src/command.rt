@@ -32,6 +32,7 @@ pub fn apply(
     ensures unchanged { OnErr result (theory.new ≡ theory.old) }
     ensures as_before { OnErr result (IsAsBefore (background world.old) (background world.new)) }
     ensures names { Extends world.old.names world.new.names }
+    ensures hier { world.new.hier ≡ world.old.hier }
 {
     match &taken.kind {
         CommandKind::Axiom { name, ty } => {

@@ -39,6 +39,7 @@ pub(crate) fn definition(
     ensures unchanged { OnErr result (theory.new ≡ theory.old) }
     ensures as_before { OnErr result (IsAsBefore (background world.old) (background world.new)) }
     ensures names { world.new.names ≡ world.old.names }
+    ensures hier { world.new.hier ≡ world.old.hier }
 {
     let entry = match definition_entry(alloc, theory, world, written, limits) {
         Ok(entry) => entry,

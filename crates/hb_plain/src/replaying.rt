@@ -31,6 +31,7 @@ pub fn replay(
     ensures unchanged { OnErr result (theory.new ≡ theory.old) }
     ensures as_before { OnErr result (IsAsBefore (background world.old) (background world.new)) }
     ensures names { Extends world.old.names world.new.names }
+    ensures hier { world.new.hier ≡ world.old.hier }
 {
     match &entry.head {
         Head::Core => match add_all(alloc, theory, &entry.decls, limits, places.span) {
@@ -111,6 +112,7 @@ fn replay_definition(
     ensures unchanged { OnErr result (theory.new ≡ theory.old) }
     ensures as_before { OnErr result (IsAsBefore (background world.old) (background world.new)) }
     ensures names { world.new.names ≡ world.old.names }
+    ensures hier { world.new.hier ≡ world.old.hier }
 {
     match definition_is_free(theory, world, entry, places) {
         Ok(name) => define(

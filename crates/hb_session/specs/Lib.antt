@@ -1,6 +1,7 @@
 -- what public contracts rest on
 pub mod Entries
-pub mod State
-pub mod Source
-pub mod Taking
+pub mod Growing
 pub mod Reporting
+pub mod Source
+pub mod State
+pub mod Taking

@@ -1,5 +1,5 @@
 -- The form of a source: its tokens and its sentences, or why it has none.
-use Rattle.std.specs.Prelude.{◌≡◌, ℕ, Bool, true, false, ◌==◌, ◌||◌, ◌⊎◌, List, Option, None, Some, slice_get}
+use Rattle.std.specs.Prelude.{◌≡◌, ℕ, ◌⊎◌, List}
 use Rattle.hb_base.specs.declared.span.Span.{Span}
 use Rattle.hb_env.specs.declared.refusal.What.{What}
 use Rattle.hb_env.specs.declared.refusal.What.TheVariants.{Utf8, Lex, Syntax, TooDeep, TooMany, NoMemory}

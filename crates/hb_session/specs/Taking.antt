@@ -1,10 +1,11 @@
 -- What an accepted command leaves of itself.
 use Rattle.std.specs.Prelude.{◌≡◌, List, [], ◌∷◌, ◌++◌}
 use Rattle.hb_env.specs.declared.entry.Entry.{Entry}
-use Rattle.hb_raw.specs.Sentence.{Act, axiom_of, definition, mixin, factory, builders, section_end, structure, instance, join, find, require, howto, about}
+use Rattle.hb_raw.specs.Sentence.{Act, join, find, require, howto, about}
 use Rattle.hb_world.specs.Taking.{Extends, IsHeadOf}
 use Rattle.hb_world.specs.Worlds.{IsAsBefore}
 use Rattle.hb_session.specs.Entries.{decls_of}
+use Rattle.hb_session.specs.Growing.{Grows}
 use Rattle.hb_session.specs.State.{State}
 use Rattle.hb_session.specs.Reporting.{IsEventOf, IsAnswer}
 use Rattle.hb_events.specs.declared.event.Event.{Event}
@@ -37,6 +38,7 @@ pub record Takes (S : State) (c : Act) (event : Event) (S' : State) : Type 0 whe
   pub left : List Entry
   pub are_left : AreLeft c left
   pub goes_on : GoesOn S S' left
+  pub grows : Grows c S.env S.back S'.back
   pub reported : IsEventOf c event
   pub answer : IsAnswer S.back.hier c event
 

@@ -3,6 +3,7 @@ ghost use Rattle.std.specs.Prelude.{◌≡◌, IfOk, OnOk, OnErr};
 ghost use Rattle.hb_raw.specs.Views.{act};
 ghost use Rattle.hb_world.specs.Taking.{Extends, HasAdded, HasGrown, HasHead};
 ghost use Rattle.hb_world.specs.Worlds.{background, IsAsBefore};
+ghost use Rattle.hb_session.specs.Growing.{Grows, GrowsBy};
 ghost use Rattle.hb_session.specs.Taking.{HasFamily};
 
 use crate::refusing::at;
@@ -27,6 +28,8 @@ pub(crate) fn apply(
     ensures grown { IfOk result (λ done. HasGrown theory.old theory.new done) }
     ensures names { Extends world.old.names world.new.names }
     ensures head { IfOk result (λ done. HasHead (act taken.now.kind) done) }
+    ensures grows { OnOk result (Grows (act taken.now.kind) theory.old (background world.old)
+        (background world.new)) }
 {
     match &taken.kind {
         CommandKind::Axiom { .. }
@@ -63,6 +66,8 @@ pub(crate) fn replay(
     ensures as_before { OnErr result (IsAsBefore (background world.old) (background world.new)) }
     ensures grown { OnOk result (HasAdded theory.old theory.new entry.now) }
     ensures names { Extends world.old.names world.new.names }
+    ensures grows { OnOk result (GrowsBy entry.now.head theory.old (background world.old)
+        (background world.new)) }
 {
     match &entry.head {
         Head::Core | Head::Axiom | Head::Definition => {

@@ -1,6 +1,7 @@
 //! Taking entries of libraries and core texts.
-ghost use Rattle.std.specs.Prelude.{◌≡◌, ◌∷◌, [], OnOk, OnErr};
+ghost use Rattle.std.specs.Prelude.{◌≡◌, ◌∷◌, [], IsTrue, OnOk, OnErr};
 ghost use Rattle.hb_env.specs.Plain.{plains};
+ghost use Rattle.hb_session.specs.Growing.{GrowsBy, IsRequire};
 ghost use Rattle.hb_session.specs.State.{state};
 ghost use Rattle.hb_session.specs.Taking.{GoesOn, OnlyNames};
 
@@ -15,6 +16,8 @@ impl Session {
     /// more, and nothing else changes.
     pub fn replay(&mut self, entry: Entry, places: &Places, limits: &Limits) -> Result<(), Refusal>
         ensures taken { OnOk result (GoesOn (state self.old) (state self.new) (entry ∷ [])) }
+        ensures grows { OnOk result (GrowsBy entry.head (state self.old).env (state self.old).back
+            (state self.new).back) }
         ensures refused { OnErr result (OnlyNames (state self.old) (state self.new)) }
         ensures lines { self.new.files.lines ≡ self.old.files.lines }
     {
@@ -26,8 +29,12 @@ impl Session {
     }
 
     /// Takes the entry of a required file.
+    #[tactic(auto, using(crate::proofs::GoesLemmas::required_grows))]
     fn replay_require(&mut self, entry: Entry, places: &Places) -> Result<(), Refusal>
+        requires required { IsRequire entry.head }
         ensures taken { OnOk result (GoesOn (state self.old) (state self.new) (entry ∷ [])) }
+        ensures grows { OnOk result (GrowsBy entry.head (state self.old).env (state self.old).back
+            (state self.new).back) }
         ensures refused { OnErr result (OnlyNames (state self.old) (state self.new)) }
         ensures lines { self.new.files.lines ≡ self.old.files.lines }
     {
@@ -51,6 +58,8 @@ impl Session {
         limits: &Limits,
     ) -> Result<(), Refusal>
         ensures taken { OnOk result (GoesOn (state self.old) (state self.new) (entry ∷ [])) }
+        ensures grows { OnOk result (GrowsBy entry.head (state self.old).env (state self.old).back
+            (state self.new).back) }
         ensures refused { OnErr result (OnlyNames (state self.old) (state self.new)) }
         ensures lines { self.new.files.lines ≡ self.old.files.lines }
     {
@@ -75,7 +84,9 @@ impl Session {
 }
 
 /// Whether an entry stands for a required file.
-fn is_require(head: &Head) -> bool {
+fn is_require(head: &Head) -> bool
+    ensures { IsTrue result → IsRequire head.now }
+{
     match head {
         Head::Require { .. } => true,
         _ => false,

@@ -1,7 +1,8 @@
 -- How a run that ended is told.
-use Rattle.std.proofs.Common.{◌≡◌, ◌⊎◌, ℕ, List, Bool, true, false, true≢false, Option, Some, None, inl, inr, refl, sym, ap, ◌∙◌}
+use Rattle.std.proofs.Common.{◌≡◌, ℕ, List, true, true≢false, Option, Some, None, inl, inr, refl, sym, ap, ◌∙◌}
 use Rattle.hb_calculus.specs.Declarations.{Decl}
-use Rattle.hb_top.specs.Report.{last_line, status_of, is_early, EndsWith, Finishes, StopIsTold, IsWork, IsEndOf, IsOutcome, StopTold}
+use Rattle.hb_top.specs.Stops.{IsTellable}
+use Rattle.hb_top.specs.Report.{last_line, status_of, is_early, EndsWith, Finishes, IsWork, IsEndOf, IsOutcome}
 use Rattle.hb_top.specs.declared.stop.Stop.{Stop}
 use Rattle.hb_top.specs.declared.status.Status.{Status}
 use Rattle.hb_top.specs.declared.status.Status.TheVariants as status
@@ -17,15 +18,15 @@ lost_wanted (Some text) wanted out out' h early = true≢false (sym early ∙ ap
 
 -- what a run that stopped so comes to, after its last line
 pub told_work : (N : List (List ℕ)) (E : List Decl) (file : List ℕ) (stop : Stop) (out out' : Option (List ℕ)) (end : Status)
-    → is_early (status_of stop) ≡ true → Finishes (last_line N E file stop) (status_of stop) out out' end → IsWork out' end
-told_work N E file stop out out' status.Done early h = tt
-told_work N E file stop out out' status.Refused early h = (stop, out, record { names = N; env = E; file = file; finishes = h })
-told_work N E file stop out out' status.Usage early h = absurd (usage_wanted (last_line N E file stop) (status_of stop) out out' h early)
-told_work N E file stop out out' status.SourceFault early h = (stop, out, record { names = N; env = E; file = file; finishes = h })
-told_work N E file stop out out' status.SinkFault early h = tt
-told_work N E file stop out out' status.Spent early h = (stop, out, record { names = N; env = E; file = file; finishes = h })
-told_work N E file stop out out' status.NoMemory early h = tt
-told_work N E file stop out out' status.EmitLost early h = absurd (lost_wanted (last_line N E file stop) (status_of stop) out out' h early)
+    → IsTellable stop → is_early (status_of stop) ≡ true → Finishes (last_line N E file stop) (status_of stop) out out' end → IsWork out' end
+told_work N E file stop out out' status.Done printed early h = tt
+told_work N E file stop out out' status.Refused printed early h = (stop, out, record { printed = printed; names = N; env = E; file = file; finishes = h })
+told_work N E file stop out out' status.Usage printed early h = absurd (usage_wanted (last_line N E file stop) (status_of stop) out out' h early)
+told_work N E file stop out out' status.SourceFault printed early h = (stop, out, record { printed = printed; names = N; env = E; file = file; finishes = h })
+told_work N E file stop out out' status.SinkFault printed early h = tt
+told_work N E file stop out out' status.Spent printed early h = (stop, out, record { printed = printed; names = N; env = E; file = file; finishes = h })
+told_work N E file stop out out' status.NoMemory printed early h = tt
+told_work N E file stop out out' status.EmitLost printed early h = absurd (lost_wanted (last_line N E file stop) (status_of stop) out out' h early)
 
 -- what work came to is its end where no text was lost
 pub same_end : (s : Status) (out : Option (List ℕ)) → IsWork out s → IsEndOf s out out s

@@ -1,3 +1,6 @@
-mod StayLemmas
 mod EndLemmas
+mod Kept
+mod ReportLemmas
 mod RunLemmas
+mod StayLemmas
+mod TraceLemmas

@@ -2,11 +2,11 @@
 use Rattle.std.proofs.Common.{◌≡◌, ℕ, List, [], Bool, true, false, true≢false, Option, refl, sym, ap}
 use Rattle.hb_io.specs.Told.{Told}
 use Rattle.hb_top.specs.Report.{usage_text, EndsWith, IsEndOf, IsOutcome}
-use Rattle.hb_top.specs.Stops.{OthersStay, SourcesStay}
+use Rattle.hb_top.specs.Stays.{OthersStay, SourcesStay}
 use Rattle.hb_top.specs.declared.status.Status.{Status}
 use Rattle.hb_top.specs.declared.status.Status.TheVariants as status
 
-abbrev is_usage : Status → Bool
+abbrev pub is_usage : Status → Bool
 is_usage status.Usage = true
 is_usage _ = false
 

@@ -1,8 +1,9 @@
 -- Files that stay.
-use Rattle.std.proofs.Common.{◌≡◌, ◌≤◌, ℕ, List, [], Bool, true, false, true≢false, IsTrue, sym, ap, ◌∙◌}
+use Rattle.std.proofs.Common.{◌≤◌, ℕ, List, [], true≢false, IsTrue, sym, ap, ◌∙◌}
 use Rattle.hb_io.specs.Told.{Told}
 use Rattle.hb_words.specs.Jobs.{is_library, is_certificate}
-use Rattle.hb_top.specs.Stops.{FilesStay, OthersStay, SourcesStay}
+use Rattle.hb_top.specs.Stops.{FilesStay}
+use Rattle.hb_top.specs.Stays.{OthersStay, SourcesStay}
 
 -- a library isn't a source
 pub lib_stays : (name : List ℕ) (before after : List ℕ → Told) → IsTrue (is_library name) → OthersStay name before after → SourcesStay before after

@@ -1,6 +1,9 @@
 -- what public contracts rest on
-pub mod Stops
-pub mod Report
-pub mod Exit
 pub mod Difference
+pub mod Exit
 pub mod Joins
+pub mod Report
+pub mod Reported
+pub mod Stays
+pub mod Stops
+pub mod Trace

@@ -6,7 +6,8 @@ use Rattle.hb_env.specs.declared.refusal.What.TheVariants as what
 use Rattle.hb_io.specs.Told.{grown, GrewByFront}
 use Rattle.hb_report.specs.Lines.{event_line, refusal_line}
 use Rattle.hb_writer.specs.Text.{joined}
-use Rattle.hb_top.specs.Stops.{IsPrinted}
+use Rattle.hb_session.specs.State.{State}
+use Rattle.hb_top.specs.Stops.{IsTellable}
 use Rattle.hb_top.specs.declared.stop.Stop.{Stop}
 use Rattle.hb_top.specs.declared.stop.Stop.TheVariants.{Refused, SourceFault, SinkFault, NoMemory}
 use Rattle.hb_top.specs.declared.status.Status.{Status}
@@ -52,12 +53,19 @@ abbrev pub Finishes : Option (List ℕ) → Status → (out out' : Option (List 
 Finishes None wanted out out' s = (out' ≡ out) × (s ≡ wanted)
 Finishes (Some text) wanted out out' s = EndsWith text wanted out out' s
 
--- the run stopped so, and its last line was written behind what the sink held
+-- the run stopped so, for a cause that is printed, and its last line was written behind what the sink held
 pub record StopIsTold (stop : Stop) (out out' : Option (List ℕ)) (end : Status) : Type 0 where
+  pub printed : IsTellable stop
   pub names : List (List ℕ)
   pub env : List Decl
   pub file : List ℕ
   pub finishes : Finishes (last_line names env file stop) (status_of stop) out out' end
+
+-- the run stopped so in this session, for a cause that is printed, and its last line was written behind what the sink held
+pub record IsToldIn (S : State) (stop : Stop) (out out' : Option (List ℕ)) (end : Status) : Type 0 where
+  pub printed : IsTellable stop
+  pub file : List ℕ
+  pub finishes : Finishes (last_line S.back.names S.env file stop) (status_of stop) out out' end
 
 abbrev pub usage_text : List ℕ
 usage_text =

@@ -1,9 +1,8 @@
 -- Why a run ends early, by the devices.
-use Rattle.std.specs.Prelude.{◌≡◌, ◌≢◌, ℕ, false, List}
+use Rattle.std.specs.Prelude.{◌≡◌, ℕ, List}
 use Rattle.hb_env.specs.declared.refusal.What.{What}
 use Rattle.hb_env.specs.declared.refusal.What.TheVariants as what
 use Rattle.hb_io.specs.Told.{Told}
-use Rattle.hb_words.specs.Jobs.{is_library, is_certificate}
 use Rattle.hb_top.specs.declared.stop.Stop.{Stop}
 use Rattle.hb_top.specs.declared.stop.Stop.TheVariants.{Refused, SourceFault, SinkFault, NoMemory}
 
@@ -22,6 +21,12 @@ abbrev pub IsSourceFault : Stop → Type 0
 IsSourceFault (SourceFault i) = Unit {0}
 IsSourceFault _ = ⊥
 
+-- the sink failed, or memory was wanting
+abbrev pub IsOfSink : Stop → Type 0
+IsOfSink SinkFault = Unit {0}
+IsOfSink NoMemory = Unit {0}
+IsOfSink _ = ⊥
+
 -- no device failed, and what is refused is printed
 abbrev pub IsInner : Stop → Type 0
 IsInner (Refused r) = IsPrinted r.what
@@ -32,11 +37,3 @@ IsInner NoMemory = Unit {0}
 -- no file has other bytes
 abbrev pub FilesStay : (before after : List ℕ → Told) → Type 0
 FilesStay before after = (n : List ℕ) → after n ≡ before n
-
--- no file but that of the name has other bytes
-abbrev pub OthersStay : List ℕ → (before after : List ℕ → Told) → Type 0
-OthersStay name before after = (n : List ℕ) → n ≢ name → after n ≡ before n
-
--- no file has other bytes but a library or a certificate, by its ending
-abbrev pub SourcesStay : (before after : List ℕ → Told) → Type 0
-SourcesStay before after = (n : List ℕ) → is_library n ≡ false → is_certificate n ≡ false → after n ≡ before n

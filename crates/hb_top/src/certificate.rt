@@ -1,17 +1,20 @@
 //! Certificates: saved, and checked.
-ghost use Rattle.std.specs.Prelude.{◌≡◌, ◌≤◌, IfErr, Err};
+ghost use Rattle.std.specs.Prelude.{◌≡◌, ◌≤◌, IfOk, IfErr, Err, string_bytes};
 ghost use Rattle.hb_io.specs.Causes.{Rose};
-ghost use Rattle.hb_top.specs.Stops.{FilesStay, OthersStay, IsSourceFault, IsTellable};
+ghost use Rattle.hb_top.specs.Stops.{FilesStay, IsSourceFault, IsTellable};
+ghost use Rattle.hb_session.specs.State.{state};
+ghost use Rattle.hb_top.specs.Reported.{certified_line, Certifies};
+ghost use Rattle.hb_top.specs.Stays.{OthersStay};
 
-use crate::library::{MOST_LIBRARY, save};
+use crate::library::MOST_LIBRARY;
+use crate::save::save;
 use crate::settings::Settings;
 use crate::source::read;
 use crate::stop::{Stop, of_refusal};
 use crate::tell::write;
-use hb_base::Span;
 use hb_io::{Depot, Sink};
-use hb_raw::{Command, CommandKind};
 use hb_session::{Session, Stage, verified};
+use std::alloc::{AllocError, Global};
 
 /// Saves the certificate of what the session declares, and tells it.
 pub(crate) fn save_certificate<D: Depot, K: Sink>(
@@ -28,6 +31,9 @@ pub(crate) fn save_certificate<D: Depot, K: Sink>(
     ensures sink { result ≡ Err Stop.SinkFault → Rose (K.faults out.old) (K.faults out.new) }
     ensures printed { IfErr result IsTellable }
     ensures files { OthersStay name.now (D.file depot.old) (D.file depot.new) }
+    ensures keeps { state session.new ≡ state session.old }
+    ensures lines { session.new.files.lines ≡ session.old.files.lines }
+    ensures certified { Certifies (K.contents out.old) (K.contents out.new) name.now result }
 {
     let file = session.files.begin(name, Stage::Other)?;
     let bytes = match session.certificate(file, &settings.limits) {
@@ -36,9 +42,7 @@ pub(crate) fn save_certificate<D: Depot, K: Sink>(
     };
     let decls = session.theory().env().len();
     let lines = bytes.lines;
-    let line = format!(in settings.alloc;
-        "certified {name}: declarations {decls} lines {lines}\n"
-    )?;
+    let line = certified_text(settings.alloc, name, decls, lines)?;
     save(
         session,
         depot,
@@ -47,6 +51,13 @@ pub(crate) fn save_certificate<D: Depot, K: Sink>(
         bytes.bytes.as_slice(),
         line.as_str(),
     )
+}
+
+/// The line of a certificate that was saved.
+fn certified_text(alloc: Global, name: &str, decls: u32, lines: u64) -> Result<String, AllocError>
+    ensures { IfOk result (λ t. string_bytes t ≡ certified_line name.now decls lines) }
+{
+    format!(in alloc; "certified {name}: declarations {decls} lines {lines}\n")
 }
 
 /// Checks a certificate, and tells what it declares.
@@ -78,20 +89,4 @@ pub(crate) fn verify_certificate<D: Depot, K: Sink>(
     let lines = found.lines;
     let line = format!(in settings.alloc; "verified {name}: declarations {decls} lines {lines}\n")?;
     write(out, line.as_str())
-}
-
-/// The place of the name that a command declares; of an instance without one its factory, else the first word.
-pub(crate) fn declared_place(command: &Command) -> Span {
-    match &command.kind {
-        CommandKind::Axiom { name, .. } => name.span,
-        CommandKind::Definition { name, .. } => name.span,
-        CommandKind::Mixin { name, .. } => name.span,
-        CommandKind::Factory { name, .. } => name.span,
-        CommandKind::Structure { name, .. } => name.span,
-        CommandKind::Instance { name, factory, .. } => match name {
-            Some(name) => name.span,
-            None => factory.span,
-        },
-        _ => command.span,
-    }
 }

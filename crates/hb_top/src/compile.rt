@@ -1,7 +1,9 @@
 //! The files of the command line, compiled in order into one session.
-ghost use Rattle.std.specs.Prelude.{◌≡◌, ◌≤◌, IfErr, Err};
+ghost use Rattle.std.specs.Prelude.{◌≡◌, ◌≤◌, IfErr, Err, IsTrue, OnOk};
 ghost use Rattle.hb_io.specs.Causes.{Rose};
-ghost use Rattle.hb_top.specs.Stops.{FilesStay, IsSourceFault, IsTellable};
+ghost use Rattle.hb_io.specs.Told.{grown};
+ghost use Rattle.hb_top.specs.Trace.{accepted_line, point, Accepts, Ends};
+ghost use Rattle.hb_top.specs.Stops.{FilesStay, IsOfSink, IsSourceFault, IsTellable};
 
 use crate::library::load;
 use crate::settings::Settings;
@@ -28,6 +30,8 @@ pub(crate) fn compile_file<D: Depot, K: Sink>(
     ensures sink { result ≡ Err Stop.SinkFault → Rose (K.faults out.old) (K.faults out.new) }
     ensures printed { IfErr result IsTellable }
     ensures files { FilesStay (D.file depot.old) (D.file depot.new) }
+    ensures went { IsTrue settings.aloud → Ends (point session.old (K.contents out.old))
+        (point session.new (K.contents out.new)) result }
 {
     if name.as_bytes().ends_with(b".hbl") {
         load(settings, session, depot, out, emitters, name)
@@ -37,6 +41,7 @@ pub(crate) fn compile_file<D: Depot, K: Sink>(
 }
 
 /// Compiles the files in order, and writes how many lines there were.
+#[tactic(auto, using(crate::proofs::TraceLemmas::accepted_told, crate::proofs::TraceLemmas::halts_by_sink))]
 pub(crate) fn compile_files<D: Depot, K: Sink>(
     settings: Settings,
     session: &mut Session,
@@ -52,6 +57,35 @@ pub(crate) fn compile_files<D: Depot, K: Sink>(
     ensures sink { result ≡ Err Stop.SinkFault → Rose (K.faults out.old) (K.faults out.new) }
     ensures printed { IfErr result IsTellable }
     ensures files { FilesStay (D.file depot.old) (D.file depot.new) }
+    ensures told { IsTrue settings.aloud → Accepts (point session.old (K.contents out.old))
+        (point session.new (K.contents out.new)) result }
+{
+    match compile_each(settings, session, depot, out, emitters, names) {
+        Ok(()) => {}
+        Err(stop) => return Err(stop),
+    }
+    accepted(settings, session, out)
+}
+
+/// Compiles the files in order.
+#[tactic(auto, using(crate::proofs::TraceLemmas::no_step, crate::proofs::TraceLemmas::goes_on, crate::proofs::TraceLemmas::then_halts))]
+fn compile_each<D: Depot, K: Sink>(
+    settings: Settings,
+    session: &mut Session,
+    depot: &mut D,
+    out: &mut K,
+    emitters: &mut Vec<Box<dyn Emitter>>,
+    names: &[String],
+) -> Result<(), Stop>
+    ensures depot_later { D.faults depot.old ≤ D.faults depot.new }
+    ensures sink_later { K.faults out.old ≤ K.faults out.new }
+    ensures source { IfErr result
+        (λ stop. IsSourceFault stop → Rose (D.faults depot.old) (D.faults depot.new)) }
+    ensures sink { result ≡ Err Stop.SinkFault → Rose (K.faults out.old) (K.faults out.new) }
+    ensures printed { IfErr result IsTellable }
+    ensures files { FilesStay (D.file depot.old) (D.file depot.new) }
+    ensures went { IsTrue settings.aloud → Ends (point session.old (K.contents out.old))
+        (point session.new (K.contents out.new)) result }
 {
     'files: for name in names {
         match compile_file(settings, session, depot, out, emitters, name.as_str()) {
@@ -59,7 +93,7 @@ pub(crate) fn compile_files<D: Depot, K: Sink>(
             Err(stop) => return Err(stop),
         }
     }
-    accepted(settings, session, out)
+    Ok(())
 }
 
 /// Writes the line of what was accepted: how many lines were before.
@@ -72,6 +106,9 @@ pub(crate) fn accepted<K: Sink>(
     ensures source { IfErr result (λ stop. IsSourceFault stop → ⊥) }
     ensures sink { result ≡ Err Stop.SinkFault → Rose (K.faults out.old) (K.faults out.new) }
     ensures printed { IfErr result IsTellable }
+    ensures cut { IfErr result IsOfSink }
+    ensures told { OnOk result (K.contents out.new ≡ grown (K.contents out.old)
+        (accepted_line session.now.files.lines)) }
 {
     let count = session.files.lines;
     let line = format!(in settings.alloc; "accepted {count}\n")?;

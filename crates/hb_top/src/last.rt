@@ -4,8 +4,8 @@ ghost use Rattle.std.specs.Option.{option_map};
 ghost use Rattle.hb_io.specs.Causes.{Rose};
 ghost use Rattle.hb_session.specs.State.{state};
 ghost use Rattle.hb_top.specs.Report as spec;
-ghost use Rattle.hb_top.specs.Report.{IsWork};
-ghost use Rattle.hb_top.specs.Stops.{IsSourceFault};
+ghost use Rattle.hb_top.specs.Report.{IsToldIn, IsWork};
+ghost use Rattle.hb_top.specs.Stops.{IsSourceFault, IsTellable};
 
 use crate::finish::end;
 use crate::status::Status;
@@ -17,14 +17,18 @@ use hb_session::Session;
 use std::alloc::{AllocError, Global};
 
 /// Writes the last line of a run that ended so, where it has one, with the names of the session.
-#[tactic(auto, using(crate::proofs::EndLemmas::told_work))]
+#[tactic(auto, using(crate::proofs::EndLemmas::told_work, crate::proofs::ReportLemmas::lost_line))]
 pub(crate) fn tell_stop<K: Sink>(
     alloc: Global,
     session: &Session,
     stop: &Stop,
     out: &mut K,
 ) -> Status
+    requires { IsTellable stop.now }
     ensures told { IsWork (K.contents out.new) result }
+    ensures early { spec.is_early (spec.status_of stop.now) ≡ true }
+    ensures cause { IsToldIn (state session.now) stop.now (K.contents out.old) (K.contents out.new)
+        result }
     ensures sink { result ≡ Status.SinkFault →
         (stop.now ≡ Stop.SinkFault) ⊎ Rose (K.faults out.old) (K.faults out.new) }
     ensures source { result ≡ Status.SourceFault → IsSourceFault stop.now }
@@ -47,7 +51,12 @@ pub(crate) fn stopped<K: Sink>(
     stop: Stop,
     out: &mut K,
 ) -> Status
+    requires { IsTellable stop }
     ensures told { IsWork (K.contents out.new) result }
+    ensures keeps { state session.new ≡ state session.old }
+    ensures early { spec.is_early (spec.status_of stop) ≡ true }
+    ensures cause { IsToldIn (state session.new) stop (K.contents out.old) (K.contents out.new)
+        result }
     ensures sink { result ≡ Status.SinkFault →
         (stop ≡ Stop.SinkFault) ⊎ Rose (K.faults out.old) (K.faults out.new) }
     ensures source { result ≡ Status.SourceFault → IsSourceFault stop }
@@ -59,7 +68,9 @@ pub(crate) fn stopped<K: Sink>(
 }
 
 /// Keeps the refusal of a run that ended so.
-fn keep_fault(session: &mut Session, stop: Stop) {
+fn keep_fault(session: &mut Session, stop: Stop)
+    ensures { state session.new ≡ state session.old }
+{
     match stop {
         Stop::Refused(refusal) => session.fault = Some(refusal),
         _ => {}

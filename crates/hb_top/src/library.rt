@@ -1,7 +1,9 @@
-//! Loading libraries and core texts, and saving libraries.
-ghost use Rattle.std.specs.Prelude.{◌≡◌, ◌≤◌, IfErr, Err};
+//! Loading libraries and core texts.
+ghost use Rattle.std.specs.Prelude.{◌≡◌, ◌≤◌, ℕ, List, IfErr, Err, IsTrue, OnOk, Option};
 ghost use Rattle.hb_io.specs.Causes.{Rose};
-ghost use Rattle.hb_top.specs.Stops.{FilesStay, OthersStay, IsSourceFault, IsTellable, IsInner};
+ghost use Rattle.hb_session.specs.State.{state};
+ghost use Rattle.hb_top.specs.Trace.{library_line, point, Ends, Writes};
+ghost use Rattle.hb_top.specs.Stops.{FilesStay, IsInner, IsOfSink, IsSourceFault, IsTellable};
 
 use crate::settings::Settings;
 use crate::source::read;
@@ -11,7 +13,7 @@ use hb_base::NameId;
 use hb_emit::Emitter;
 use hb_env::{Decl, Entry, Head, Places};
 use hb_events::Event;
-use hb_io::{Depot, DepotFault, Sink};
+use hb_io::{Depot, Sink};
 use hb_session::{Session, Stage};
 use std::alloc::{AllocError, Global};
 
@@ -22,6 +24,7 @@ pub(crate) const MOST_LIBRARY: usize = 536_870_912;
 const MOST_CORE: usize = 67_108_864;
 
 /// Loads a library into an empty session: each entry is taken as it was when it was saved.
+#[tactic(auto, using(crate::proofs::TraceLemmas::all_kept, crate::proofs::TraceLemmas::nothing_done, crate::proofs::TraceLemmas::goes_on, crate::proofs::TraceLemmas::then_halts, crate::proofs::TraceLemmas::no_step, crate::proofs::TraceLemmas::halts_there, crate::proofs::TraceLemmas::library_told, crate::proofs::TraceLemmas::halts_by_sink))]
 pub(crate) fn load<D: Depot, K: Sink>(
     settings: Settings,
     session: &mut Session,
@@ -37,6 +40,8 @@ pub(crate) fn load<D: Depot, K: Sink>(
     ensures sink { result ≡ Err Stop.SinkFault → Rose (K.faults out.old) (K.faults out.new) }
     ensures printed { IfErr result IsTellable }
     ensures files { FilesStay (D.file depot.old) (D.file depot.new) }
+    ensures went { IsTrue settings.aloud → Ends (point session.old (K.contents out.old))
+        (point session.new (K.contents out.new)) result }
 {
     let file = session.files.begin(name, Stage::Other)?;
     let bytes = match read(settings.alloc, depot, file, name, MOST_LIBRARY) {
@@ -49,12 +54,33 @@ pub(crate) fn load<D: Depot, K: Sink>(
     };
     drop(bytes);
     let count = entries.len();
-    for (entry, places) in entries {
+    'entries: for (entry, places) in entries {
         match load_entry(settings, session, emitters, entry, &places) {
             Ok(()) => {}
             Err(stop) => return Err(stop),
         }
     }
+    tell_library(settings, session, out, name, count)
+}
+
+/// Writes the line of a library that was loaded, where the run is aloud, and counts it.
+fn tell_library<K: Sink>(
+    settings: Settings,
+    session: &mut Session,
+    out: &mut K,
+    name: &str,
+    count: usize,
+) -> Result<(), Stop>
+    ensures sink_later { K.faults out.old ≤ K.faults out.new }
+    ensures source { IfErr result (λ stop. IsSourceFault stop → ⊥) }
+    ensures sink { result ≡ Err Stop.SinkFault → Rose (K.faults out.old) (K.faults out.new) }
+    ensures printed { IfErr result IsTellable }
+    ensures cut { IfErr result IsOfSink }
+    ensures keeps { state session.new ≡ state session.old }
+    ensures told { IsTrue settings.aloud → OnOk result
+        (Writes (point session.old (K.contents out.old)) (point session.new (K.contents out.new))
+        (library_line name.now count) 1) }
+{
     if !settings.aloud {
         return Ok(());
     }
@@ -68,6 +94,7 @@ pub(crate) fn load<D: Depot, K: Sink>(
 }
 
 /// Takes one entry of a library. A file that was required counts as compiled.
+#[tactic(auto, using(crate::proofs::TraceLemmas::only_names, crate::proofs::TraceLemmas::loaded_noted, crate::proofs::TraceLemmas::no_step, crate::proofs::TraceLemmas::halts_there, crate::proofs::TraceLemmas::then_halts))]
 fn load_entry(
     settings: Settings,
     session: &mut Session,
@@ -75,20 +102,15 @@ fn load_entry(
     entry: Entry,
     places: &Places,
 ) -> Result<(), Stop>
-    ensures { IfErr result IsInner }
+    ensures inner { IfErr result IsInner }
+    ensures went { (o : Option (List ℕ)) → Ends (point session.old o) (point session.new o) result }
 {
     let required = required_by(&entry);
     match session.replay(entry, places, &settings.limits) {
         Ok(()) => {}
         Err(refusal) => return Err(of_refusal(refusal)),
     }
-    match required {
-        Some(name) => {
-            let source = session.source_name(name)?;
-            session.files.note(source)?;
-        }
-        None => {}
-    }
+    note_required(session, required)?;
     if settings.aloud {
         match emit(settings.alloc, session, emitters) {
             Ok(()) => {}
@@ -96,6 +118,20 @@ fn load_entry(
         }
     }
     Ok(())
+}
+
+/// Notes that a file was compiled into the library. Out of memory is the one error.
+fn note_required(session: &mut Session, required: Option<NameId>) -> Result<(), AllocError>
+    ensures keeps { state session.new ≡ state session.old }
+    ensures lines { session.new.files.lines ≡ session.old.files.lines }
+{
+    match required {
+        Some(name) => {
+            let source = session.source_name(name)?;
+            session.files.note(source)
+        }
+        None => Ok(()),
+    }
 }
 
 /// The name that the entry requires.
@@ -107,6 +143,7 @@ fn required_by(entry: &Entry) -> Option<NameId> {
 }
 
 /// Reads a core text and adds its declarations in order, each as an entry of its own.
+#[tactic(auto, using(crate::proofs::TraceLemmas::all_kept, crate::proofs::TraceLemmas::nothing_done, crate::proofs::TraceLemmas::goes_on, crate::proofs::TraceLemmas::then_halts, crate::proofs::TraceLemmas::no_step, crate::proofs::TraceLemmas::halts_there, crate::proofs::TraceLemmas::added_told, crate::proofs::TraceLemmas::only_names, crate::proofs::TraceLemmas::halts_by_sink))]
 pub(crate) fn core<D: Depot, K: Sink>(
     settings: Settings,
     session: &mut Session,
@@ -122,6 +159,8 @@ pub(crate) fn core<D: Depot, K: Sink>(
     ensures sink { result ≡ Err Stop.SinkFault → Rose (K.faults out.old) (K.faults out.new) }
     ensures printed { IfErr result IsTellable }
     ensures files { FilesStay (D.file depot.old) (D.file depot.new) }
+    ensures went { IsTrue settings.aloud → Ends (point session.old (K.contents out.old))
+        (point session.new (K.contents out.new)) result }
 {
     let file = session.files.begin(name, Stage::Other)?;
     let bytes = match read(settings.alloc, depot, file, name, MOST_CORE) {
@@ -180,31 +219,5 @@ fn declared_by(decl: &Decl) -> NameId {
         Decl::Axiom { name, .. } => *name,
         Decl::Def { name, .. } => *name,
         Decl::Record { name, .. } => *name,
-    }
-}
-
-/// Saves bytes under a name, which gets a number among the files of the session, and then tells it.
-pub(crate) fn save<D: Depot, K: Sink>(
-    session: &mut Session,
-    depot: &mut D,
-    out: &mut K,
-    name: &str,
-    bytes: &[u8],
-    line: &str,
-) -> Result<(), Stop>
-    ensures depot_later { D.faults depot.old ≤ D.faults depot.new }
-    ensures sink_later { K.faults out.old ≤ K.faults out.new }
-    ensures source { IfErr result
-        (λ stop. IsSourceFault stop → Rose (D.faults depot.old) (D.faults depot.new)) }
-    ensures sink { result ≡ Err Stop.SinkFault → Rose (K.faults out.old) (K.faults out.new) }
-    ensures printed { IfErr result IsTellable }
-    ensures files { OthersStay name.now (D.file depot.old) (D.file depot.new) }
-{
-    let file = session.files.begin(name, Stage::Other)?;
-    match depot.save(name, bytes) {
-        Ok(()) => write(out, line),
-        Err(DepotFault::Failed) => Err(Stop::SourceFault(file)),
-        Err(DepotFault::NoMemory) => Err(Stop::NoMemory),
-        Err(DepotFault::Absent) => Err(Stop::NoMemory),
     }
 }

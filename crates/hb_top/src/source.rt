@@ -1,9 +1,12 @@
 //! Compiling sources.
-ghost use Rattle.std.specs.Prelude.{◌≡◌, ◌≤◌, IfOk, IfErr, Err, length};
+ghost use Rattle.std.specs.Prelude.{◌≡◌, ◌≤◌, IfOk, IfErr, Err, IsTrue, length};
 ghost use Rattle.hb_io.specs.Causes.{Rose};
+ghost use Rattle.hb_session.specs.State.{state};
+ghost use Rattle.hb_session.specs.Taking.{KeepsAll};
+ghost use Rattle.hb_top.specs.Trace.{point, Ends};
 ghost use Rattle.hb_top.specs.Stops.{FilesStay, IsInner, IsSourceFault, IsTellable};
 
-use crate::certificate::declared_place;
+use crate::place::declared_place;
 use crate::settings::Settings;
 use crate::stop::{Stop, of_refusal, refused};
 use crate::tell::report;
@@ -13,7 +16,7 @@ use hb_env::{Refusal, What};
 use hb_io::{Depot, DepotFault, Sink, Whole, read_whole};
 use hb_raw::{Command, CommandKind, Word};
 use hb_session::{Session, Stage, at_byte, stops_at_notation};
-use std::alloc::Global;
+use std::alloc::{AllocError, Global};
 
 /// The most bytes of a source: 1 MiB.
 pub(crate) const MOST_SOURCE: usize = 1_048_576;
@@ -59,6 +62,7 @@ struct Reading {
 }
 
 /// Compiles a source of the command line into the session, and in place each source that it requires.
+#[tactic(auto, using(crate::proofs::TraceLemmas::nothing_done, crate::proofs::TraceLemmas::then_ends, crate::proofs::TraceLemmas::no_step, crate::proofs::TraceLemmas::halts_there))]
 pub(crate) fn compile_source<D: Depot, K: Sink>(
     settings: Settings,
     session: &mut Session,
@@ -74,6 +78,8 @@ pub(crate) fn compile_source<D: Depot, K: Sink>(
     ensures sink { result ≡ Err Stop.SinkFault → Rose (K.faults out.old) (K.faults out.new) }
     ensures printed { IfErr result IsTellable }
     ensures files { FilesStay (D.file depot.old) (D.file depot.new) }
+    ensures went { IsTrue settings.aloud → Ends (point session.old (K.contents out.old))
+        (point session.new (K.contents out.new)) result }
 {
     if !session.files.has_room() {
         let file = session.files.begin(name, Stage::Other)?;
@@ -96,6 +102,7 @@ pub(crate) fn compile_source<D: Depot, K: Sink>(
 }
 
 /// Compiles the bytes of a source that was begun, and in place each source that it requires.
+#[tactic(auto, using(crate::proofs::TraceLemmas::all_kept, crate::proofs::TraceLemmas::then_ends, crate::proofs::TraceLemmas::no_step, crate::proofs::TraceLemmas::halts_there))]
 pub(crate) fn compile_bytes<D: Depot, K: Sink>(
     settings: Settings,
     session: &mut Session,
@@ -113,6 +120,8 @@ pub(crate) fn compile_bytes<D: Depot, K: Sink>(
     ensures sink { result ≡ Err Stop.SinkFault → Rose (K.faults out.old) (K.faults out.new) }
     ensures printed { IfErr result IsTellable }
     ensures files { FilesStay (D.file depot.old) (D.file depot.new) }
+    ensures went { IsTrue settings.aloud → Ends (point session.old (K.contents out.old))
+        (point session.new (K.contents out.new)) result }
 {
     let first = match read_source(session, file, bytes, None) {
         Ok(first) => first,
@@ -131,7 +140,9 @@ fn read_source(
     required: Option<Word>,
 ) -> Result<Reading, Stop>
     requires { length bytes.now ≤ 1048576 }
-    ensures { IfErr result IsInner }
+    ensures inner { IfErr result IsInner }
+    ensures keeps { KeepsAll (state session.old) (state session.new) }
+    ensures lines { session.new.files.lines ≡ session.old.files.lines }
 {
     let mut rest = match commands(session, file, bytes) {
         Ok(commands) => commands,
@@ -149,6 +160,8 @@ fn read_source(
 /// The commands of a source, with or without notations.
 fn commands(session: &mut Session, file: u16, bytes: &[u8]) -> Result<Vec<Command>, Refusal>
     requires { length bytes.now ≤ 1048576 }
+    ensures keeps { KeepsAll (state session.old) (state session.new) }
+    ensures lines { session.new.files.lines ≡ session.old.files.lines }
 {
     match session.commands(file, bytes) {
         Ok(commands) => Ok(commands),
@@ -162,7 +175,10 @@ fn noted_commands(
     file: u16,
     bytes: &[u8],
     refusal: Refusal,
-) -> Result<Vec<Command>, Refusal> {
+) -> Result<Vec<Command>, Refusal>
+    ensures keeps { KeepsAll (state session.old) (state session.new) }
+    ensures lines { session.new.files.lines ≡ session.old.files.lines }
+{
     if stops_at_notation(bytes, &refusal) {
         session.noted_commands(file, bytes)
     } else {
@@ -171,6 +187,7 @@ fn noted_commands(
 }
 
 /// Takes the commands of the sources of the stack, of which the last is read first.
+#[tactic(auto, using(crate::proofs::TraceLemmas::goes_on, crate::proofs::TraceLemmas::then_halts, crate::proofs::TraceLemmas::no_step, crate::proofs::TraceLemmas::halts_there))]
 fn take_all<D: Depot, K: Sink>(
     settings: Settings,
     session: &mut Session,
@@ -186,6 +203,8 @@ fn take_all<D: Depot, K: Sink>(
     ensures sink { result ≡ Err Stop.SinkFault → Rose (K.faults out.old) (K.faults out.new) }
     ensures printed { IfErr result IsTellable }
     ensures files { FilesStay (D.file depot.old) (D.file depot.new) }
+    ensures went { IsTrue settings.aloud → Ends (point session.old (K.contents out.old))
+        (point session.new (K.contents out.new)) result }
 {
     let mut stack = stack;
     'turns: for _ in 0..MOST_TURNS {
@@ -202,6 +221,7 @@ fn take_all<D: Depot, K: Sink>(
 
 /// Takes the next command of a source, or ends it; what is left of it, and what it requires, goes onto
 /// the stack.
+#[tactic(auto, using(crate::proofs::TraceLemmas::all_kept, crate::proofs::TraceLemmas::nothing_done, crate::proofs::TraceLemmas::then_ends, crate::proofs::TraceLemmas::no_step, crate::proofs::TraceLemmas::halts_there))]
 fn turn<D: Depot, K: Sink>(
     settings: Settings,
     session: &mut Session,
@@ -218,6 +238,8 @@ fn turn<D: Depot, K: Sink>(
     ensures sink { result ≡ Err Stop.SinkFault → Rose (K.faults out.old) (K.faults out.new) }
     ensures printed { IfErr result IsTellable }
     ensures files { FilesStay (D.file depot.old) (D.file depot.new) }
+    ensures went { IsTrue settings.aloud → Ends (point session.old (K.contents out.old))
+        (point session.new (K.contents out.new)) result }
 {
     let mut now = now;
     let Some(command) = now.rest.pop() else {
@@ -240,6 +262,7 @@ fn turn<D: Depot, K: Sink>(
 }
 
 /// Ends a source, and takes the command that required it. In a section it is refused at its end.
+#[tactic(auto, using(crate::proofs::TraceLemmas::nothing_done, crate::proofs::TraceLemmas::then_ends, crate::proofs::TraceLemmas::no_step, crate::proofs::TraceLemmas::halts_there))]
 fn end<K: Sink>(
     settings: Settings,
     session: &mut Session,
@@ -251,6 +274,8 @@ fn end<K: Sink>(
     ensures source { IfErr result (λ stop. IsSourceFault stop → ⊥) }
     ensures sink { result ≡ Err Stop.SinkFault → Rose (K.faults out.old) (K.faults out.new) }
     ensures printed { IfErr result IsTellable }
+    ensures went { IsTrue settings.aloud → Ends (point session.old (K.contents out.old))
+        (point session.new (K.contents out.new)) result }
 {
     if session.is_in_section() {
         return Err(refused(at_byte(now.file, now.length), What::SectionOpen));
@@ -263,6 +288,7 @@ fn end<K: Sink>(
 }
 
 /// Takes a command that requires no file, and reports it.
+#[tactic(auto, using(crate::proofs::TraceLemmas::told_ends, crate::proofs::TraceLemmas::only_names, crate::proofs::TraceLemmas::no_step, crate::proofs::TraceLemmas::halts_there, crate::proofs::TraceLemmas::halts_by_sink))]
 fn take<K: Sink>(
     settings: Settings,
     session: &mut Session,
@@ -274,21 +300,33 @@ fn take<K: Sink>(
     ensures source { IfErr result (λ stop. IsSourceFault stop → ⊥) }
     ensures sink { result ≡ Err Stop.SinkFault → Rose (K.faults out.old) (K.faults out.new) }
     ensures printed { IfErr result IsTellable }
+    ensures went { IsTrue settings.aloud → Ends (point session.old (K.contents out.old))
+        (point session.new (K.contents out.new)) result }
 {
     let from = session.theory().env().len();
     match session.take(command, &settings.limits) {
         Ok(event) => {
-            let to = session.theory().env().len();
-            if from < to {
-                session.files.declare(from, to, declared_place(command))?;
-            }
+            note_declared(session, from, command)?;
             report(settings, session, &event, out, emitters)
         }
         Err(refusal) => Err(of_refusal(refusal)),
     }
 }
 
+/// Notes where the declarations from a number on were commanded. Out of memory is the one error.
+fn note_declared(session: &mut Session, from: u32, command: &Command) -> Result<(), AllocError>
+    ensures keeps { state session.new ≡ state session.old }
+    ensures lines { session.new.files.lines ≡ session.old.files.lines }
+{
+    let to = session.theory().env().len();
+    if from < to {
+        session.files.declare(from, to, declared_place(command))?;
+    }
+    Ok(())
+}
+
 /// Takes a command whose required file was compiled, and reports it.
+#[tactic(auto, using(crate::proofs::TraceLemmas::told_ends, crate::proofs::TraceLemmas::nothing_done, crate::proofs::TraceLemmas::no_step, crate::proofs::TraceLemmas::halts_there, crate::proofs::TraceLemmas::halts_by_sink))]
 fn take_required<K: Sink>(
     settings: Settings,
     session: &mut Session,
@@ -300,6 +338,8 @@ fn take_required<K: Sink>(
     ensures source { IfErr result (λ stop. IsSourceFault stop → ⊥) }
     ensures sink { result ≡ Err Stop.SinkFault → Rose (K.faults out.old) (K.faults out.new) }
     ensures printed { IfErr result IsTellable }
+    ensures went { IsTrue settings.aloud → Ends (point session.old (K.contents out.old))
+        (point session.new (K.contents out.new)) result }
 {
     match session.take_require(name) {
         Ok(event) => report(settings, session, &event, out, emitters),
@@ -322,6 +362,8 @@ fn require<D: Depot>(
     ensures sink { IfErr result (λ stop. stop ≡ Stop.SinkFault → ⊥) }
     ensures printed { IfErr result IsTellable }
     ensures files { FilesStay (D.file depot.old) (D.file depot.new) }
+    ensures keeps { KeepsAll (state session.old) (state session.new) }
+    ensures lines { session.new.files.lines ≡ session.old.files.lines }
 {
     if session.is_in_section() {
         return Err(refused(span, What::SectionOpen));

@@ -1,7 +1,10 @@
 //! Telling what was accepted: entries to the emitters, lines to the sink.
-ghost use Rattle.std.specs.Prelude.{◌≡◌, ◌≤◌, IfErr, Err};
+ghost use Rattle.std.specs.Prelude.{◌≡◌, ◌≤◌, IfErr, Err, IsTrue, OnOk};
 ghost use Rattle.hb_io.specs.Causes.{Rose};
-ghost use Rattle.hb_top.specs.Stops.{IsSourceFault, IsTellable, IsInner};
+ghost use Rattle.hb_io.specs.Told.{grown};
+ghost use Rattle.hb_session.specs.State.{state};
+ghost use Rattle.hb_top.specs.Trace.{point, Tells};
+ghost use Rattle.hb_top.specs.Stops.{IsOfSink, IsSourceFault, IsTellable};
 
 use crate::settings::Settings;
 use crate::stop::Stop;
@@ -17,6 +20,8 @@ pub(crate) fn write<K: Sink>(out: &mut K, text: &str) -> Result<(), Stop>
     ensures source { IfErr result (λ stop. IsSourceFault stop → ⊥) }
     ensures sink { result ≡ Err Stop.SinkFault → Rose (K.faults out.old) (K.faults out.new) }
     ensures printed { IfErr result IsTellable }
+    ensures cut { IfErr result IsOfSink }
+    ensures all { OnOk result (K.contents out.new ≡ grown (K.contents out.old) text.now) }
 {
     match write_all(out, text.as_bytes()) {
         Ok(()) => Ok(()),
@@ -31,7 +36,7 @@ pub(crate) fn emit(
     session: &Session,
     emitters: &mut Vec<Box<dyn Emitter>>,
 ) -> Result<(), Stop>
-    ensures { IfErr result IsInner }
+    ensures { IfErr result (λ stop. stop ≡ Stop.NoMemory) }
 {
     let Some(entry) = session.entries().last() else {
         return Ok(());
@@ -61,6 +66,10 @@ pub(crate) fn tell<K: Sink>(
     ensures source { IfErr result (λ stop. IsSourceFault stop → ⊥) }
     ensures sink { result ≡ Err Stop.SinkFault → Rose (K.faults out.old) (K.faults out.new) }
     ensures printed { IfErr result IsTellable }
+    ensures cut { IfErr result IsOfSink }
+    ensures keeps { state session.new ≡ state session.old }
+    ensures told { IsTrue settings.aloud → OnOk result (Tells
+        (point session.old (K.contents out.old)) (point session.new (K.contents out.new)) event.now) }
 {
     if !settings.aloud {
         return Ok(());
@@ -103,6 +112,10 @@ pub(crate) fn report<K: Sink>(
     ensures source { IfErr result (λ stop. IsSourceFault stop → ⊥) }
     ensures sink { result ≡ Err Stop.SinkFault → Rose (K.faults out.old) (K.faults out.new) }
     ensures printed { IfErr result IsTellable }
+    ensures cut { IfErr result IsOfSink }
+    ensures keeps { state session.new ≡ state session.old }
+    ensures told { IsTrue settings.aloud → OnOk result (Tells
+        (point session.old (K.contents out.old)) (point session.new (K.contents out.new)) event.now) }
 {
     if settings.aloud && has_entry(event) {
         match emit(settings.alloc, session, emitters) {

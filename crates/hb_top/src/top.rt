@@ -1,22 +1,26 @@
 //! The top call.
-ghost use Rattle.std.specs.Prelude.{◌≡◌, ◌≤◌, ℕ, List, IfErr, Err};
+ghost use Rattle.std.specs.Prelude.{◌≡◌, ◌≤◌, ℕ, List, IfErr, Err, IsTrue, map};
 ghost use Rattle.hb_calculus.specs.Typing.{WellFormed};
 ghost use Rattle.hb_io.specs.Causes.{Rose};
 ghost use Rattle.hb_session.specs.Entries.{decls_of};
 ghost use Rattle.hb_session.specs.State.{state};
 ghost use Rattle.hb_top.specs.Joins.{HaveJoins};
 ghost use Rattle.hb_top.specs.Report.{IsOutcome, IsWork};
-ghost use Rattle.hb_top.specs.Stops.{FilesStay, IsSourceFault, IsTellable, OthersStay, SourcesStay};
-ghost use Rattle.hb_words.specs.Jobs.{IsAllowed};
+ghost use Rattle.hb_top.specs.Stops.{FilesStay, IsSourceFault, IsTellable};
+ghost use Rattle.hb_top.specs.Stays.{OthersStay, SourcesStay};
+ghost use Rattle.hb_top.specs.Trace.{point};
+ghost use Rattle.hb_top.specs.Reported.{beginning, certifying, compiling, is_aloud, asked_by, saving, HasReported, ReportsFrom, Works, WorksOut};
+ghost use Rattle.hb_words.specs.Jobs.{first_word, word_of, IsAllowed};
 
 use crate::certificate::{save_certificate, verify_certificate};
 use crate::compile::{accepted, compile_files};
 use crate::emitters::drop_failed;
 use crate::finish::{finish_all, usage};
 use crate::last::stopped;
-use crate::library::{core, save};
+use crate::library::core;
 use crate::refactor::{Comparison, refactor};
 use crate::sample::run_sample;
+use crate::save::save;
 use crate::settings::{Settings, limits_of};
 use crate::show::show_file;
 use crate::status::Status;
@@ -52,6 +56,11 @@ pub fn run<D: Depot, K: Sink>(
     ensures sink_fault { result ≡ Status.SinkFault → Rose (K.faults out.old) (K.faults out.new) }
     ensures told { IsOutcome (K.contents out.old) (K.contents out.new) result }
 
+    // The report of a run that compiles commands: the lines of those that were accepted, one after another, which made
+    // the session what it is, and how it ended.
+    ensures report { ReportsFrom (first_word (map (λ word. word.now) words.now))
+        (beginning (K.contents out.old)) (state session.new) (K.contents out.new) result }
+
     // At most one file has other bytes afterwards, and no source.
     ensures files { (name : List ℕ) × OthersStay name (D.file depot.old) (D.file depot.new) }
     ensures sources { SourcesStay (D.file depot.old) (D.file depot.new) }
@@ -66,7 +75,7 @@ pub fn run<D: Depot, K: Sink>(
 }
 
 /// Does what the words ask for.
-#[tactic(auto, using(crate::proofs::RunLemmas::usage_outcome, crate::proofs::RunLemmas::usage_reads_nothing, crate::proofs::RunLemmas::no_file_changes, crate::proofs::RunLemmas::no_source_changes))]
+#[tactic(auto, using(crate::proofs::ReportLemmas::usage_report, crate::proofs::ReportLemmas::memory_report, crate::proofs::RunLemmas::usage_outcome, crate::proofs::RunLemmas::usage_reads_nothing, crate::proofs::RunLemmas::no_file_changes, crate::proofs::RunLemmas::no_source_changes))]
 fn do_words<D: Depot, K: Sink>(
     alloc: Global,
     words: &[&str],
@@ -81,6 +90,8 @@ fn do_words<D: Depot, K: Sink>(
     ensures told { IsOutcome (K.contents out.old) (K.contents out.new) result }
     ensures files { (name : List ℕ) × OthersStay name (D.file depot.old) (D.file depot.new) }
     ensures sources { SourcesStay (D.file depot.old) (D.file depot.new) }
+    ensures report { ReportsFrom (first_word (map (λ word. word.now) words.now))
+        (point session.old (K.contents out.old)) (state session.new) (K.contents out.new) result }
 {
     match read_words(alloc, words) {
         Err(_) => Status::NoMemory,
@@ -90,7 +101,7 @@ fn do_words<D: Depot, K: Sink>(
 }
 
 /// Does a job, and ends the emitters' texts.
-#[tactic(auto, using(crate::proofs::EndLemmas::end_outcome, crate::proofs::RunLemmas::source_end))]
+#[tactic(auto, using(crate::proofs::ReportLemmas::report_end, crate::proofs::EndLemmas::end_outcome, crate::proofs::RunLemmas::source_end))]
 fn do_job<D: Depot, K: Sink>(
     alloc: Global,
     job: &Job,
@@ -106,13 +117,15 @@ fn do_job<D: Depot, K: Sink>(
     ensures told { IsOutcome (K.contents out.old) (K.contents out.new) result }
     ensures files { (name : List ℕ) × OthersStay name (D.file depot.old) (D.file depot.new) }
     ensures sources { SourcesStay (D.file depot.old) (D.file depot.new) }
+    ensures report { HasReported (asked_by (word_of job.now))
+        (point session.old (K.contents out.old)) (state session.new) (K.contents out.new) result }
 {
     let status = work_and_tell(alloc, job, depot, out, emitters, session);
     finish_all(alloc, status, out, emitters)
 }
 
 /// Does a job, up to the line that tells how it ended.
-#[tactic(auto, using(crate::proofs::StayLemmas::all_stay, crate::proofs::StayLemmas::none_changes))]
+#[tactic(auto, using(crate::proofs::ReportLemmas::works_done, crate::proofs::ReportLemmas::works_stopped, crate::proofs::ReportLemmas::kind_memory, crate::proofs::StayLemmas::all_stay, crate::proofs::StayLemmas::none_changes))]
 fn work_and_tell<D: Depot, K: Sink>(
     alloc: Global,
     job: &Job,
@@ -129,6 +142,8 @@ fn work_and_tell<D: Depot, K: Sink>(
     ensures told { IsWork (K.contents out.new) result }
     ensures files { (name : List ℕ) × OthersStay name (D.file depot.old) (D.file depot.new) }
     ensures sources { SourcesStay (D.file depot.old) (D.file depot.new) }
+    ensures report { HasReported (asked_by (word_of job.now))
+        (point session.old (K.contents out.old)) (state session.new) (K.contents out.new) result }
 {
     let settings = settings_of(alloc, job);
     match job {
@@ -156,7 +171,9 @@ fn work_and_tell<D: Depot, K: Sink>(
 }
 
 /// How the commands of a job are taken.
-fn settings_of(alloc: Global, job: &Job) -> Settings {
+fn settings_of(alloc: Global, job: &Job) -> Settings
+    ensures { result.aloud ≡ is_aloud job.now }
+{
     let (steps, aloud) = match job {
         Job::Compile { steps, .. } => (*steps, true),
         Job::Save { steps, .. } => (*steps, true),
@@ -173,7 +190,7 @@ fn settings_of(alloc: Global, job: &Job) -> Settings {
 }
 
 /// The work of a job of one session.
-#[tactic(auto, using(crate::proofs::StayLemmas::lib_stays, crate::proofs::StayLemmas::cert_stays, crate::proofs::StayLemmas::all_stay, crate::proofs::StayLemmas::none_changes))]
+#[tactic(auto, using(crate::proofs::ReportLemmas::compiled, crate::proofs::StayLemmas::lib_stays, crate::proofs::StayLemmas::cert_stays, crate::proofs::StayLemmas::all_stay, crate::proofs::StayLemmas::none_changes))]
 fn work<D: Depot, K: Sink>(
     settings: Settings,
     job: &Job,
@@ -191,6 +208,8 @@ fn work<D: Depot, K: Sink>(
     ensures printed { IfErr result IsTellable }
     ensures files { (name : List ℕ) × OthersStay name (D.file depot.old) (D.file depot.new) }
     ensures sources { SourcesStay (D.file depot.old) (D.file depot.new) }
+    ensures report { IsTrue settings.aloud → Works (asked_by (word_of job.now))
+        (point session.old (K.contents out.old)) (point session.new (K.contents out.new)) result }
 {
     match job {
         Job::Compile { files, .. } => {
@@ -221,6 +240,7 @@ fn work<D: Depot, K: Sink>(
 }
 
 /// Compiles the files, and saves the library.
+#[tactic(auto, using(crate::proofs::ReportLemmas::halted, crate::proofs::ReportLemmas::saved_behind))]
 fn save_library<D: Depot, K: Sink>(
     settings: Settings,
     session: &mut Session,
@@ -237,6 +257,8 @@ fn save_library<D: Depot, K: Sink>(
     ensures sink { result ≡ Err Stop.SinkFault → Rose (K.faults out.old) (K.faults out.new) }
     ensures printed { IfErr result IsTellable }
     ensures files { OthersStay lib.now (D.file depot.old) (D.file depot.new) }
+    ensures report { IsTrue settings.aloud → WorksOut saving
+        (point session.old (K.contents out.old)) (point session.new (K.contents out.new)) result }
 {
     match compile_files(settings, session, depot, out, emitters, files) {
         Ok(()) => {}
@@ -248,6 +270,7 @@ fn save_library<D: Depot, K: Sink>(
 }
 
 /// Compiles the files, and saves the certificate.
+#[tactic(auto, using(crate::proofs::ReportLemmas::halted, crate::proofs::ReportLemmas::certified_behind))]
 fn certify_files<D: Depot, K: Sink>(
     settings: Settings,
     session: &mut Session,
@@ -264,6 +287,8 @@ fn certify_files<D: Depot, K: Sink>(
     ensures sink { result ≡ Err Stop.SinkFault → Rose (K.faults out.old) (K.faults out.new) }
     ensures printed { IfErr result IsTellable }
     ensures files { OthersStay cert.now (D.file depot.old) (D.file depot.new) }
+    ensures report { IsTrue settings.aloud → WorksOut certifying
+        (point session.old (K.contents out.old)) (point session.new (K.contents out.new)) result }
 {
     match compile_files(settings, session, depot, out, emitters, files) {
         Ok(()) => {}
@@ -273,6 +298,7 @@ fn certify_files<D: Depot, K: Sink>(
 }
 
 /// Adds the declarations of a core text, and tells how many there were.
+#[tactic(auto, using(crate::proofs::ReportLemmas::halted, crate::proofs::ReportLemmas::compiled, crate::proofs::ReportLemmas::accepted_core))]
 fn add_core<D: Depot, K: Sink>(
     settings: Settings,
     session: &mut Session,
@@ -288,6 +314,8 @@ fn add_core<D: Depot, K: Sink>(
     ensures sink { result ≡ Err Stop.SinkFault → Rose (K.faults out.old) (K.faults out.new) }
     ensures printed { IfErr result IsTellable }
     ensures files { FilesStay (D.file depot.old) (D.file depot.new) }
+    ensures report { IsTrue settings.aloud → WorksOut compiling
+        (point session.old (K.contents out.old)) (point session.new (K.contents out.new)) result }
 {
     match core(settings, session, depot, out, emitters, file) {
         Ok(()) => {}

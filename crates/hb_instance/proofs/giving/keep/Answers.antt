@@ -7,13 +7,13 @@ use Rattle.hb_world.specs.Worlds.{background, opened}
 use Rattle.hb_instance.proofs.GrowLemmas.{grown_parts}
 use Rattle.hb_instance.proofs.giving.keep.Goals as goal
 
-pub returns-in_err-give_constant : goal.returns-in_err-give_constant
-returns-in_err-give_constant c = grown_parts (background c.args.world.now) _ refl c.give_constant.ensures (tables.grew_same _ _ refl) (section_same _)
+pub returns-in_err-give_constant-clause-grown : goal.returns-in_err-give_constant-clause-grown
+returns-in_err-give_constant-clause-grown c = grown_parts (background c.args.world.now) _ refl c.give_constant.ensures.grew (tables.grew_same _ _ refl) (section_same _)
 
-pub returns-in_err-enter_at : goal.returns-in_err-enter_at
-returns-in_err-enter_at c = grown_parts (background c.args.world.now) _ refl c.give_constant.ensures c.enter_at.ensures (section_same _)
+pub returns-in_err-enter_at-clause-grown : goal.returns-in_err-enter_at-clause-grown
+returns-in_err-enter_at-clause-grown c = grown_parts (background c.args.world.now) _ refl c.give_constant.ensures.grew c.enter_at.ensures (section_same _)
 
-pub returns : goal.returns
-returns c =
-    grown_parts (background c.args.world.now) _ refl c.give_constant.ensures c.enter_at.ensures
+pub returns-clause-grown : goal.returns-clause-grown
+returns-clause-grown c =
+    grown_parts (background c.args.world.now) _ refl c.give_constant.ensures.grew c.enter_at.ensures
     (subst (λ o. SectionGrew (option_map opened o) (option_map opened c.grown_section-section.result.0)) c.replace-open.ensures.value c.grown_section-section.ensures)

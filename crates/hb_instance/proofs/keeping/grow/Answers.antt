@@ -1,5 +1,4 @@
-use Rattle.std.proofs.Common.{map}
-use Rattle.hb_world.specs.Worlds.{opened, value_of}
+use Rattle.hb_world.specs.Worlds.{opened}
 use Rattle.hb_instance.proofs.GrowLemmas.{more_same, given_more, opened_more}
 use Rattle.hb_instance.proofs.keeping.grow.Goals as goal
 

@@ -1,4 +1,4 @@
-use Rattle.std.proofs.Common.{refl, inl, inr, sym, ◌∙◌}
+use Rattle.std.proofs.Common.{refl, inr}
 use Rattle.hb_session.proofs.queries.howto.Goals as goal
 
 pub returns-in-Ok : goal.returns-in-Ok

@@ -1,4 +1,4 @@
-use Rattle.std.proofs.Common.{refl, inl, inr, sym, ◌∙◌}
+use Rattle.std.proofs.Common.{refl}
 use Rattle.hb_session.proofs.read.no_tokens.Goals as goal
 
 pub returns-in-Lex : goal.returns-in-Lex

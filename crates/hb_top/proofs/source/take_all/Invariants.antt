@@ -1,6 +1,7 @@
-use Rattle.hb_top.proofs.StayLemmas.{Later}
+use Rattle.hb_top.proofs.Kept.{Kept}
+use Rattle.hb_top.specs.Trace.{point}
 use Rattle.hb_top.proofs.source.take_all.Given as goal
 
 abbrev pub invariant-turns : goal.invariant-turns
 invariant-turns g l =
-    Later (g.D.Depot.faults l.initial.depot) (g.D.Depot.faults l.depot) (g.K.Sink.faults l.initial.out) (g.K.Sink.faults l.out) (g.D.Depot.file l.initial.depot) (g.D.Depot.file l.depot)
+    Kept l.settings.aloud (point l.initial.session (g.K.Sink.contents l.initial.out)) (point l.session (g.K.Sink.contents l.out)) (g.D.Depot.faults l.initial.depot) (g.D.Depot.faults l.depot) (g.K.Sink.faults l.initial.out) (g.K.Sink.faults l.out) (g.D.Depot.file l.initial.depot) (g.D.Depot.file l.depot)

@@ -1,4 +1,3 @@
-use Rattle.std.proofs.Common.{refl, inl, inr, sym, ◌∙◌}
 use Rattle.hb_session.proofs.session.Session.commands.Goals as goal
 
 pub returns-in-Err-clause-malformed : goal.returns-in-Err-clause-malformed

@@ -1,4 +1,4 @@
-use Rattle.std.proofs.Common.{◌∙◌, ◌-◌, ap, rules}
+use Rattle.std.proofs.Common.{rules}
 use Rattle.hb_session.proofs.GoesLemmas.{agree_less}
 use Rattle.hb_session.proofs.session.Session.drop_last.Goals as goal
 

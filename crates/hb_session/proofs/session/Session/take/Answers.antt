@@ -1,4 +1,4 @@
-use Rattle.std.proofs.Common.{refl, inl, inr, sym, ◌∙◌}
+use Rattle.std.proofs.Common.{refl}
 use Rattle.hb_raw.specs.Views.{term}
 use Rattle.hb_session.proofs.GoesLemmas.{about_taken, howto_taken, join_taken}
 use Rattle.hb_session.proofs.session.Session.take.Goals as goal

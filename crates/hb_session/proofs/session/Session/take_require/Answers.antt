@@ -1,5 +1,4 @@
-use Rattle.std.proofs.Common.{◌≡◌, [], refl, sym}
-use Rattle.hb_env.specs.Plain.{plains}
+use Rattle.std.proofs.Common.{refl, sym}
 use Rattle.hb_env.specs.declared.entry.Head.TheVariants as heads
 use Rattle.hb_session.proofs.GoesLemmas.{agree_none, takes_require}
 use Rattle.hb_session.proofs.session.Session.take_require.Goals as goal
@@ -14,4 +13,4 @@ invariant_of-self-2 c = record {
 pub returns-clause-taken : goal.returns-clause-taken
 returns-clause-taken c =
     takes_require _ _ c.args.name (record { head = heads.Require c.args.name.name; decls = c.new.result }) refl (rw c.new.ensures.items refl)
-    (rw (sym c.in-Ok.ensures.items) c.push_reserved.ensures.items) refl refl
+    (rw (sym c.in-Ok.ensures.items) c.push_reserved.ensures.items) refl refl refl

@@ -1,0 +1,50 @@
+-- What an accepted command does to the hierarchy.
+use Rattle.std.specs.Prelude.{◌≡◌, List}
+use Rattle.std.specs.Option.{option_map}
+use Rattle.hb_base.specs.declared.name_id.NameId.{NameId}
+use Rattle.hb_builder.specs.Sections.{HasBegun, HasEnded}
+use Rattle.hb_calculus.specs.Declarations.{Decl}
+use Rattle.hb_env.specs.declared.entry.Head.{Head}
+use Rattle.hb_env.specs.declared.entry.Head.TheVariants as heads
+use Rattle.hb_hier.specs.Declaring.{with_mixin, with_factory, with_structure}
+use Rattle.hb_instance.specs.Giving.{Gives}
+use Rattle.hb_mixin.specs.Declaring.{field_names}
+use Rattle.hb_raw.specs.Sentence.{Act, axiom_of, definition, mixin, factory, builders, section_end, structure, instance, join, find, require, howto, about}
+use Rattle.hb_world.specs.Taking.{binder_names, factory_names, word_name}
+use Rattle.hb_world.specs.Worlds.{Background}
+
+-- A mixin, a factory or a structure is declared last; builders open the section of their factory, and its end closes
+-- it; an instance gives at the constant of its carrier, or in a section nothing; all else leaves the hierarchy as it is.
+abbrev pub Grows : Act → List Decl → (old new : Background) → Type 0
+Grows (axiom_of n ty) E old new = new.hier ≡ old.hier
+Grows (definition n bs ty b) E old new = new.hier ≡ old.hier
+Grows (mixin n c is fs) E old new = new.hier ≡ with_mixin old.hier n.name (factory_names is) (field_names fs)
+Grows (factory n c is fs) E old new = new.hier ≡ with_factory old.hier n.name (factory_names is) (field_names fs)
+Grows (builders c v i) E old new = HasBegun i.factory.name c.name (option_map word_name v) old new
+Grows section_end E old new = HasEnded old new
+Grows (structure n c is) E old new = new.hier ≡ with_structure old.hier n.name (factory_names is)
+Grows (instance n bs f c ws t) E old new = Gives old.section E f.name c.name (binder_names bs) old.hier new.hier
+Grows (join a b) E old new = new.hier ≡ old.hier
+Grows (find s c) E old new = new.hier ≡ old.hier
+Grows (require n) E old new = new.hier ≡ old.hier
+Grows (howto s c) E old new = new.hier ≡ old.hier
+Grows (about n) E old new = new.hier ≡ old.hier
+
+-- The same of an entry of a library, or of a core text. That of a mixin or a factory has neither its name nor those of
+-- its fields, which are its record's.
+abbrev pub GrowsBy : Head → List Decl → (old new : Background) → Type 0
+GrowsBy heads.Core E old new = new.hier ≡ old.hier
+GrowsBy heads.Axiom E old new = new.hier ≡ old.hier
+GrowsBy heads.Definition E old new = new.hier ≡ old.hier
+GrowsBy (heads.Mixin v) E old new = (n : NameId) × (fields : List NameId) × (new.hier ≡ with_mixin old.hier n v.items fields)
+GrowsBy (heads.Factory v) E old new = (n : NameId) × (fields : List NameId) × (new.hier ≡ with_factory old.hier n v.items fields)
+GrowsBy (heads.Builders name carrier var) E old new = HasBegun name carrier var old new
+GrowsBy heads.End E old new = HasEnded old new
+GrowsBy (heads.Structure n v) E old new = new.hier ≡ with_structure old.hier n v.items
+GrowsBy (heads.Instance f c v) E old new = Gives old.section E f c v.items old.hier new.hier
+GrowsBy (heads.Require n) E old new = new.hier ≡ old.hier
+
+-- the entry of a required file
+abbrev pub IsRequire : Head → Type 0
+IsRequire (heads.Require n) = Unit {0}
+IsRequire _ = ⊥

@@ -1,6 +1,0 @@
-use Rattle.hb_top.proofs.StayLemmas.{Later}
-use Rattle.hb_top.proofs.compile.compile_files.Given as goal
-
-abbrev pub invariant-files : goal.invariant-files
-invariant-files g l =
-    Later (g.D.Depot.faults l.initial.depot) (g.D.Depot.faults l.depot) (g.K.Sink.faults l.initial.out) (g.K.Sink.faults l.out) (g.D.Depot.file l.initial.depot) (g.D.Depot.file l.depot)
