@@ -65,8 +65,8 @@ fn whole_set(
     }
 }
 
-/// The sets of the structures that are missing, this one, those that are missing inside of the whole one
-/// beside it, and those inside of them, each before those that have more.
+/// The sets of the structures that are missing inside of the whole one, so that this one has its join, and
+/// those inside of them, each before those that have more. No set is listed that another one makes needless.
 fn missing(
     alloc: Global,
     hier: &Hier,
@@ -74,8 +74,10 @@ fn missing(
     whole: &MixSet,
 ) -> Result<Vec<MixSet>, AllocError> {
     let mut found = Vec::new(alloc);
-    found.push(first)?;
     add_missing(alloc, hier, whole, &mut found)?;
+    if !is_held(&found, &first) {
+        found.push(first)?;
+    }
     for at in 0..MOST_FOUND {
         if let Some(set) = found.as_slice().get(at) {
             let set = set.copy();
@@ -85,8 +87,8 @@ fn missing(
     ordered(alloc, found)
 }
 
-/// Adds the sets that are missing inside of one: the unions of two sets inside of it that no set inside of
-/// it holds, where a declared structure that doesn't hold the whole of it does.
+/// Adds the sets that are missing inside of one, each time one that no other missing one has all of: with
+/// it, those that it has all of are no longer missing.
 fn add_missing(
     alloc: Global,
     hier: &Hier,
@@ -94,17 +96,51 @@ fn add_missing(
     found: &mut Vec<MixSet>,
 ) -> Result<(), AllocError> {
     let mut inside = inside_of(alloc, hier, set, found)?;
+    for _ in 0..MOST_FOUND {
+        if found.len() >= MOST_FOUND {
+            return Ok(());
+        }
+        let Some(union) = largest_missing(hier, set, &inside) else {
+            return Ok(());
+        };
+        inside.push(union.copy())?;
+        found.push(union)?;
+    }
+    Ok(())
+}
+
+/// A set that is missing inside of one, and that no other missing one has all of: a union of two sets inside
+/// of it that no set inside of it holds, where a declared structure that doesn't hold the whole of it does.
+fn largest_missing(hier: &Hier, set: &MixSet, inside: &Vec<MixSet>) -> Option<MixSet> {
+    let mut largest = None;
     for a in 0..MOST_INSIDE {
         for b in 0..a {
-            if let Some(union) = union_of(&inside, a, b) {
-                if is_missing(hier, set, &inside, &union) && found.len() < MOST_FOUND {
-                    inside.push(union.copy())?;
-                    found.push(union)?;
+            if let Some(union) = union_of(inside, a, b) {
+                if has_all_of(&union, &largest) && is_missing(hier, set, inside, &union) {
+                    largest = Some(union);
                 }
             }
         }
     }
-    Ok(())
+    largest
+}
+
+/// Whether a set has all of another, if there is one.
+fn has_all_of(set: &MixSet, other: &Option<MixSet>) -> bool {
+    match other {
+        Some(other) => other.subset(set),
+        None => true,
+    }
+}
+
+/// Whether one of the sets has all of another.
+fn is_held(sets: &Vec<MixSet>, set: &MixSet) -> bool {
+    for one in sets {
+        if set.subset(one) {
+            return true;
+        }
+    }
+    false
 }
 
 /// The sets strictly inside of one that are declared or found.
@@ -141,10 +177,8 @@ fn union_of(list: &Vec<MixSet>, a: usize, b: usize) -> Option<MixSet> {
 
 /// Whether no set inside holds the union, and a declared structure does that doesn't hold the whole set.
 fn is_missing(hier: &Hier, set: &MixSet, inside: &Vec<MixSet>, union: &MixSet) -> bool {
-    for one in inside {
-        if union.subset(one) {
-            return false;
-        }
+    if is_held(inside, union) {
+        return false;
     }
     for s in 0..hier.structures() {
         let declared = hier.mix(StructId(s));
