@@ -12,6 +12,8 @@ use Rattle.hb_hier.specs.Declaring.{with_ending}
 use Rattle.hb_hier.specs.declared.known.Known.TheVariants.{Factory}
 use Rattle.hb_world.specs.Worlds.{Background, Opened}
 use Rattle.hb_world.specs.Taking.{word_name}
+use Rattle.hb_world.specs.declared.done.Done.{Done}
+use Rattle.hb_world.specs.declared.done.Done.TheVariants as done
 
 -- a section of the factory, at the carrier and with the variable, in which nothing was given or defined
 abbrev pub IsNew : FactoryId → NameId → Option NameId → Opened → Type 0
@@ -46,6 +48,11 @@ abbrev pub HasSection : Act → Background → Background → Type 0
 HasSection (builders c v i) old new = HasBegun i.factory.name c.name (option_map word_name v) old new
 HasSection section_end old new = HasEnded old new
 HasSection _ old new = ⊥
+
+-- the entry of a begin or an end has no declarations
+abbrev pub DeclaresNothing : Done → Type 0
+DeclaresNothing (done.Entry e) = e.decls.items ≡ []
+DeclaresNothing _ = ⊥
 
 -- what an entry of a library does
 abbrev pub HasLoaded : Head → Background → Background → Type 0

@@ -1,8 +1,10 @@
 //! Where sections of builders begin.
-ghost use Rattle.std.specs.Prelude.{◌≡◌, ◌<◌, length, Some, false, IfOk, OnOk, OnErr};
+ghost use Rattle.std.specs.Prelude.{◌≡◌, ◌<◌, length, Some, false, IfOk, IfErr, OnOk, OnErr};
+ghost use Rattle.hb_env.specs.declared.refusal.What.TheVariants as what;
 ghost use Rattle.hb_hier.specs.declared.known.Known.TheVariants as known;
 ghost use Rattle.hb_hier.specs.Hierarchy.{known_as, ended};
 ghost use Rattle.hb_world.specs.Worlds.{background, opened, IsAsBefore};
+ghost use Rattle.hb_builder.specs.Refusing.{FactoryCause};
 ghost use Rattle.hb_builder.specs.Sections.{IsNew, Opens};
 
 use hb_base::{NameId, Span};
@@ -22,6 +24,7 @@ use std::vec::Vec;
 pub(crate) fn check_factory(hier: &Hier, name: NameId, place: Span) -> Result<FactoryId, Refusal>
     ensures known { IfOk result (λ f. known_as hier.now name ≡ Some (known.Factory f)) }
     ensures open_yet { IfOk result (λ f. ended hier.now.endings f.0 ≡ false) }
+    ensures refused { IfErr result (FactoryCause hier.now name place) }
 {
     match hier.known(name) {
         Some(Known::Factory(f)) => {
@@ -51,6 +54,7 @@ pub(crate) fn begin(
     ensures as_before { OnErr result (IsAsBefore (background world.old) (background world.new)) }
     ensures names { world.new.names ≡ world.old.names }
     ensures opens { OnOk result (Opens factory carrier var (background world.old) (background world.new)) }
+    ensures memory { IfErr result (λ r. r ≡ record { span = place; what = what.NoMemory }) }
 {
     match section_of(alloc, theory, world, factory, carrier, var) {
         Ok(section) => {

@@ -1,12 +1,13 @@
 //! Taking a command.
-ghost use Rattle.std.specs.Prelude.{◌≡◌, ◌++◌, [], IfOk, OnOk, OnErr};
+ghost use Rattle.std.specs.Prelude.{◌≡◌, ◌++◌, [], IfOk, IfErr, OnOk, OnErr};
 ghost use Rattle.hb_env.specs.Plain.{plains};
 ghost use Rattle.hb_raw.specs.Views.{act};
 ghost use Rattle.hb_world.specs.Worlds.{background, IsAsBefore};
 ghost use Rattle.hb_world.specs.Taking.{Extends, HasGrown, HasHead, word_name};
 ghost use Rattle.std.specs.Option.{option_map};
 ghost use Rattle.hb_env.specs.declared.entry.Head.TheVariants as heads;
-ghost use Rattle.hb_builder.specs.Sections.{HasBegun, HasSection};
+ghost use Rattle.hb_builder.specs.Refusing.{BeginCause, Refuses};
+ghost use Rattle.hb_builder.specs.Sections.{DeclaresNothing, HasBegun, HasSection};
 
 use crate::begin::{begin, check_factory};
 use crate::end::end;
@@ -20,8 +21,8 @@ use std::alloc::Global;
 use std::vec::Vec;
 
 /// Takes the begin or the end of a section of builders. A begin is refused in this order: `SectionOpen`;
-/// `UnknownFactory` and `Finished` of the factory; `NotCarrier`. An end is refused as `NoSection`. Where it
-/// is refused, nothing changes.
+/// `UnknownFactory` and `Finished` of the factory; `NotCarrier`. An end is refused as `NoSection`. Neither
+/// declares anything; where it is refused, nothing changes.
 #[tactic(auto, using(crate::proofs::SameLemmas::as_before_same, crate::proofs::SameLemmas::extends_same, crate::proofs::SameLemmas::nothing_more))]
 pub fn apply(
     alloc: Global,
@@ -37,6 +38,8 @@ pub fn apply(
     ensures head { IfOk result (HasHead (act taken.now.kind)) }
     ensures section { OnOk result
         (HasSection (act taken.now.kind) (background world.old) (background world.new)) }
+    ensures none { IfOk result DeclaresNothing }
+    ensures refused { IfErr result (Refuses (background world.old) taken.now.span (act taken.now.kind)) }
 {
     match &taken.kind {
         CommandKind::Builders { carrier, var, item } => {
@@ -92,6 +95,7 @@ fn open(
     ensures decls { IfOk result (λ e. e.decls.items ≡ []) }
     ensures begun { OnOk result
         (HasBegun item.factory.name carrier.name (option_map word_name var) (background world.old) (background world.new)) }
+    ensures refused { IfErr result (BeginCause (background world.old) span carrier item) }
 {
     outside_section(world, span)?;
     let place = item.factory.span;

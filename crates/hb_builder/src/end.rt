@@ -1,6 +1,7 @@
 //! Where sections of builders end.
-ghost use Rattle.std.specs.Prelude.{◌≡◌, OnOk, OnErr};
+ghost use Rattle.std.specs.Prelude.{◌≡◌, IfErr, OnOk, OnErr};
 ghost use Rattle.hb_world.specs.Worlds.{background, IsAsBefore};
+ghost use Rattle.hb_builder.specs.Refusing.{EndCause};
 ghost use Rattle.hb_builder.specs.Sections.{HasEnded};
 
 use hb_base::Span;
@@ -15,6 +16,7 @@ pub(crate) fn end(world: &mut World, place: Span) -> Result<(), Refusal>
     ensures as_before { OnErr result (IsAsBefore (background world.old) (background world.new)) }
     ensures names { world.new.names ≡ world.old.names }
     ensures ended { OnOk result (HasEnded (background world.old) (background world.new)) }
+    ensures refused { IfErr result (EndCause (background world.old) place) }
 {
     let Some(section) = &world.section else {
         return Err(refused(place, What::NoSection));

@@ -1,8 +1,10 @@
 //! Taking an entry of a library.
-ghost use Rattle.std.specs.Prelude.{◌≡◌, ◌++◌, [], OnOk, OnErr};
+ghost use Rattle.std.specs.Prelude.{◌≡◌, ◌++◌, [], IfErr, OnOk, OnErr};
 ghost use Rattle.hb_env.specs.Plain.{plains};
 ghost use Rattle.hb_world.specs.Worlds.{background, IsAsBefore};
 ghost use Rattle.hb_world.specs.Taking.{Extends};
+ghost use Rattle.hb_items.specs.Comparing.{bad_at};
+ghost use Rattle.hb_builder.specs.Refusing.{LoadRefuses};
 ghost use Rattle.hb_builder.specs.Sections.{HasLoaded};
 
 use crate::begin::{begin, check_factory};
@@ -32,6 +34,9 @@ pub fn replay(
     ensures names { Extends world.old.names world.new.names }
     ensures section { OnOk result
         (HasLoaded entry.now.head (background world.old) (background world.new)) }
+    ensures none { OnOk result (entry.now.decls.items ≡ []) }
+    ensures refused { IfErr result
+        (LoadRefuses (background world.old) places.now entry.now.head entry.now.decls.items) }
 {
     let span = places.span;
     match &entry.head {
@@ -63,7 +68,9 @@ pub fn replay(
 
 /// The entry has no declarations.
 fn without_decls(entry: &Entry, places: &Places) -> Result<(), Refusal>
-    ensures { OnOk result (entry.now.decls.items ≡ []) }
+    ensures none { OnOk result (entry.now.decls.items ≡ []) }
+    ensures refused { IfErr result
+        (λ r. ¬ (entry.now.decls.items ≡ []) × (r ≡ bad_at places.now places.now.count)) }
 {
     if entry.decls.is_empty() {
         Ok(())

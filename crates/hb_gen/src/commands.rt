@@ -1,4 +1,6 @@
 //! The commands of a sample.
+ghost use Rattle.hb_gen.specs.Names.{Extends};
+
 use crate::draws::Draws;
 use crate::error::SampleRefused;
 use crate::maker::{applied, command, item, numbered, one_field, raw, word};
@@ -24,7 +26,9 @@ impl Maker {
     }
 
     /// `Axiom N : Type.` and `Axiom e : N.`
-    pub fn axioms(&mut self, names: &mut Names) -> Result<(), SampleRefused> {
+    pub fn axioms(&mut self, names: &mut Names) -> Result<(), SampleRefused>
+        ensures kept { Extends names.old names.new }
+    {
         let carrier = word(names, "N")?;
         self.put(CommandKind::Axiom {
             name: carrier,
@@ -47,7 +51,9 @@ impl Maker {
     }
 
     /// A mixin and its structure: `Mi` and `Si`, over the structure `Sr` where it stands on another.
-    pub fn level(&mut self, names: &mut Names, number: u64) -> Result<(), SampleRefused> {
+    pub fn level(&mut self, names: &mut Names, number: u64) -> Result<(), SampleRefused>
+        ensures kept { Extends names.old names.new }
+    {
         let below = self.below(number);
         let mixin = numbered(self.alloc, names, "M", number)?;
         let field = numbered(self.alloc, names, "f", number)?;
@@ -98,7 +104,9 @@ impl Maker {
     }
 
     /// `HB.structure Definition Top := { A of S0 A & S1 A & .. }.`
-    pub fn top(&mut self, names: &mut Names, size: u64) -> Result<(), SampleRefused> {
+    pub fn top(&mut self, names: &mut Names, size: u64) -> Result<(), SampleRefused>
+        ensures kept { Extends names.old names.new }
+    {
         let name = word(names, "Top")?;
         let carrier = self.carrier;
         let mut items = Vec::new(self.alloc);
@@ -114,7 +122,9 @@ impl Maker {
     }
 
     /// `HB.instance Definition _ := Mi.Build N e.`
-    pub fn instance(&mut self, names: &mut Names, number: u64) -> Result<(), SampleRefused> {
+    pub fn instance(&mut self, names: &mut Names, number: u64) -> Result<(), SampleRefused>
+        ensures kept { Extends names.old names.new }
+    {
         let factory = numbered(self.alloc, names, "M", number)?;
         let build = format!(in self.alloc; "M{number}.Build")?;
         let build = word(names, build.as_str())?;
@@ -133,7 +143,9 @@ impl Maker {
     }
 
     /// `Definition ti : N := @fi N.`
-    pub fn definition(&mut self, names: &mut Names, number: u64) -> Result<(), SampleRefused> {
+    pub fn definition(&mut self, names: &mut Names, number: u64) -> Result<(), SampleRefused>
+        ensures kept { Extends names.old names.new }
+    {
         let name = numbered(self.alloc, names, "t", number)?;
         let ty = word(names, "N")?;
         let field = numbered(self.alloc, names, "f", number)?;

@@ -1,4 +1,6 @@
 //! The parts of commands, all without a place.
+ghost use Rattle.hb_gen.specs.Names.{Extends};
+
 use crate::error::SampleRefused;
 use hb_base::{NameId, Names, Span};
 use hb_raw::{Command, CommandKind, Field, Item, Raw, RawKind, Word};
@@ -12,7 +14,9 @@ const NOWHERE: Span = Span {
 };
 
 /// The word of a text.
-pub(crate) fn word(names: &mut Names, text: &str) -> Result<Word, SampleRefused> {
+pub(crate) fn word(names: &mut Names, text: &str) -> Result<Word, SampleRefused>
+    ensures kept { Extends names.old names.new }
+{
     match names.number(text) {
         Ok(name) => Ok(Word {
             name,
@@ -28,7 +32,9 @@ pub(crate) fn numbered(
     names: &mut Names,
     letter: &str,
     number: u64,
-) -> Result<Word, SampleRefused> {
+) -> Result<Word, SampleRefused>
+    ensures kept { Extends names.old names.new }
+{
     let text = format!(in alloc; "{letter}{number}")?;
     word(names, text.as_str())
 }

@@ -1,4 +1,6 @@
 //! Whole samples.
+ghost use Rattle.hb_gen.specs.Names.{Extends};
+
 use crate::commands::Maker;
 use crate::draws::Draws;
 use crate::error::SampleRefused;
@@ -15,7 +17,9 @@ pub fn sample(
     names: &mut Names,
     number: u64,
     size: u16,
-) -> Result<Vec<Command>, SampleRefused> {
+) -> Result<Vec<Command>, SampleRefused>
+    ensures kept { Extends names.old names.new }
+{
     let size = u64::from(size);
     let mut maker = Maker {
         alloc,

@@ -1,5 +1,5 @@
 -- What an instance gives, by its target.
-use Rattle.std.proofs.Common.{◌≡◌, List, [], ◌∷◌, Option, None, Some, map, refl, ap, ◌∙◌}
+use Rattle.std.proofs.Common.{◌≡◌, Result, Ok, Err, OnOk, List, [], ◌∷◌, Option, None, Some, map, refl, ap, ◌∙◌}
 use Rattle.std.specs.Option.{option_map}
 use Rattle.hb_base.specs.declared.name_id.NameId.{NameId}
 use Rattle.hb_calculus.specs.Declarations.{Decl}
@@ -24,3 +24,8 @@ gives_at (Some o) E f c names (Local g) h h' is same = same
 pub asked_words : (h : Hierarchy) (bs : List (Word × Option Word)) → map (λ b. asked_by h (option_map word_name b.1)) bs ≡ asked h (binder_names bs)
 asked_words h [] = refl
 asked_words h (b ∷ bs) = ap (λ l. asked_by h (option_map word_name b.1) ∷ l) (asked_words h bs)
+
+-- what holds anyway, holds where the result is Ok
+pub on_ok : {T E : Type 0} (r : Result T E) (P : Type 0) → P → OnOk r P
+on_ok (Ok x) P p = p
+on_ok (Err e) P p = tt

@@ -7,12 +7,13 @@ use Rattle.hb_calculus.specs.Declarations.{Decl}
 use Rattle.hb_hier.specs.Undoing as hier
 use Rattle.hb_tables.specs.Growing as tables
 use Rattle.hb_order.specs.declared.ids.MixinId.{MixinId}
-use Rattle.hb_sets.specs.Set.{Set}
+use Rattle.hb_sets.specs.Set.{Set, union}
 use Rattle.hb_tree.specs.Tree.{Tree}
 use Rattle.hb_term.specs.declared.term.Term.{Term}
 use Rattle.hb_world.specs.Worlds.{Background, IsAsBefore, Opened, value_of}
 use Rattle.hb_step.specs.Marks.{SectionGrew, OpenedGrew, Since}
 use Rattle.hb_step.proofs.SinceLemmas.{since_same, since_trans}
+use Rattle.hb_instance.specs.Giving.{HasGiven}
 use Rattle.hb_instance.specs.Growing.{IsLonger, HasMore, HasGrown}
 
 pub more_same : {X : Type 0} (xs : List X) → HasMore xs xs
@@ -65,3 +66,8 @@ given_more old new f = (map value_of f.0, ap (map value_of) f.1 ∙ map-append v
 
 pub opened_more : (s : Opened) (G : List (MixinId × Tree)) (p : Set) (D : List NameId) → HasMore s.given G → HasMore s.definitions D → OpenedGrew s (record s { given = G; provided = p; definitions = D })
 opened_more s G p D f g = record { given = f.0; provided = p; definitions = g.0; grown = rw (f.1, g.1) refl }
+
+pub opened_gave :
+    (s : Opened) (G : List (MixinId × Tree)) (p x : Set) (D : List NameId) → p ≡ union s.provided x → HasMore s.given G
+    → HasMore s.definitions D → HasGiven x s (record s { given = G; provided = p; definitions = D })
+opened_gave s G p x D is f g = record { given = f.0; definitions = g.0; grown = rw (is, f.1, g.1) refl }

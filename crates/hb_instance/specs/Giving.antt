@@ -1,5 +1,5 @@
--- What an instance gives in the hierarchy.
-use Rattle.std.specs.Prelude.{◌≡◌, List, map, Option, None, Some}
+-- What an instance gives in the hierarchy, and what it leaves in an open section.
+use Rattle.std.specs.Prelude.{◌≡◌, ◌++◌, List, map, Option, None, Some}
 use Rattle.hb_base.specs.declared.name_id.NameId.{NameId}
 use Rattle.hb_calculus.specs.Declarations.{Decl}
 use Rattle.hb_env.specs.Naming.{name_in}
@@ -10,8 +10,11 @@ use Rattle.hb_hier.specs.Giving.{provided_or_none, with_giving}
 use Rattle.hb_hier.specs.Hierarchy.{Hierarchy, known_as}
 use Rattle.hb_hier.specs.declared.known.Known.{Known}
 use Rattle.hb_hier.specs.declared.known.Known.TheVariants as known
+use Rattle.hb_order.specs.declared.ids.MixinId.{MixinId}
 use Rattle.hb_order.specs.declared.ids.StructId.{StructId}
 use Rattle.hb_raw.specs.Sentence.{Act, instance}
+use Rattle.hb_sets.specs.Set.{Set, union}
+use Rattle.hb_tree.specs.Tree.{Tree}
 use Rattle.hb_tree.specs.declared.leaves.ConstId.{ConstId}
 use Rattle.hb_world.specs.Taking.{binder_names}
 use Rattle.hb_world.specs.Worlds.{Opened}
@@ -58,3 +61,30 @@ HasInstance _ o E h h' = ⊥
 abbrev pub HasInstanceOf : Head → Option Opened → List Decl → Hierarchy → Hierarchy → Type 0
 HasInstanceOf (heads.Instance f c v) o E h h' = Gives o E f c v.items h h'
 HasInstanceOf _ o E h h' = ⊥
+
+-- the section in which these mixins were given too: its carrier may have more, and so may its definitions
+pub record HasGiven (mixins : Set) (s t : Opened) : Type 0 where
+  pub given : List (MixinId × Tree)
+  pub definitions : List NameId
+  pub grown :
+      t ≡ record s { given = s.given ++ given; provided = union s.provided mixins; definitions = s.definitions ++ definitions }
+
+-- the same of the open section; where none is open, none opens
+abbrev pub Keeps : (mixins : Set) → Option Opened → Option Opened → Type 0
+Keeps x None o = o ≡ None
+Keeps x (Some s) None = ⊥
+Keeps x (Some s) (Some t) = HasGiven x s t
+
+-- what an instance of the factory leaves in the open section: what the factory provides was given there too
+abbrev pub IsKept : Hierarchy → (factory : NameId) → Option Opened → Option Opened → Type 0
+IsKept h f o o' = Keeps (provided_or_none h (known_as h f)) o o'
+
+-- the command is an instance, and leaves this
+abbrev pub HasKept : Act → Hierarchy → Option Opened → Option Opened → Type 0
+HasKept (instance n bs f c ws t) h o o' = IsKept h f.name o o'
+HasKept _ h o o' = ⊥
+
+-- the same of the entry of an instance
+abbrev pub HasKeptOf : Head → Hierarchy → Option Opened → Option Opened → Type 0
+HasKeptOf (heads.Instance f c v) h o o' = IsKept h f o o'
+HasKeptOf _ h o o' = ⊥

@@ -1,7 +1,8 @@
 //! What the names and the sets of an instance allow.
 ghost use Rattle.std.specs.Prelude.{◌≡◌, map, IfOk, Some};
 ghost use Rattle.std.specs.Option.{option_map};
-ghost use Rattle.hb_hier.specs.Hierarchy.{known_as};
+ghost use Rattle.hb_hier.specs.Giving.{provided_or_none};
+ghost use Rattle.hb_hier.specs.Hierarchy.{known_as, provided, IsDeclared};
 ghost use Rattle.hb_order.specs.declared.ids.FactoryId.{FactoryId};
 ghost use Rattle.hb_world.specs.Taking.{word_name};
 ghost use Rattle.hb_world.specs.Worlds.{background};
@@ -37,6 +38,8 @@ pub(crate) fn allowed_by_text(
         (map (λ b. asked_by world.now.hier (option_map word_name b.1)) written.entry.binders.now)
         a.target) }
     ensures factory { IfOk result (λ a. a.factory ≡ written.entry.factory.name) }
+    ensures gives { IfOk result
+        (λ a. a.gives ≡ provided_or_none world.now.hier (known_as world.now.hier written.entry.factory.name)) }
 {
     let asked = asked_structures(alloc, &world.hier, written)?;
     let known = known_factory(&world.hier, written.factory.name, written.factory.span)?;
@@ -126,7 +129,10 @@ pub(crate) fn structure_named(hier: &Hier, name: NameId, span: Span) -> Result<S
 }
 
 /// The mixin or ended factory of the name.
-pub(crate) fn known_factory(hier: &Hier, name: NameId, span: Span) -> Result<Known, Refusal> {
+pub(crate) fn known_factory(hier: &Hier, name: NameId, span: Span) -> Result<Known, Refusal>
+    ensures known { IfOk result (λ k. known_as hier.now name ≡ Some k) }
+    ensures declared { IfOk result (IsDeclared hier.now) }
+{
     match hier.known(name) {
         Some(Known::Mixin(m)) => Ok(Known::Mixin(m)),
         Some(Known::Factory(f)) => {
@@ -179,6 +185,8 @@ pub(crate) fn at_constant(
 ) -> Result<Allowed, Refusal>
     ensures target { IfOk result (λ a. a.target ≡ target) }
     ensures factory { IfOk result (λ a. a.factory ≡ factory) }
+    ensures gives { IfOk result
+        (λ a. a.gives ≡ provided_or_none world.now.hier (known_as world.now.hier factory)) }
 {
     let checked = match &target {
         Target::Constant(k, binders) => {
@@ -210,8 +218,10 @@ pub(crate) fn in_section(
     known: Known,
     span: Span,
 ) -> Result<Allowed, Refusal>
+    requires { IsDeclared world.now.hier known }
     ensures target { IfOk result (λ a. (f : FactoryId) × (a.target ≡ targets.Local f)) }
     ensures factory { IfOk result (λ a. a.factory ≡ factory) }
+    ensures gives { IfOk result (λ a. a.gives ≡ provided world.now.hier known) }
 {
     let required = required_by(&world.hier, known);
     if let Some(m) = first_missing(world, section, &required) {

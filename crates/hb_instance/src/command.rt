@@ -6,7 +6,7 @@ ghost use Rattle.hb_raw.specs.Views.{act};
 ghost use Rattle.hb_step.specs.Marks.{Since};
 ghost use Rattle.hb_world.specs.Worlds.{background, IsAsBefore};
 ghost use Rattle.hb_world.specs.Taking.{Extends, HasGrown, HasAdded, HasHead, binder_names, word_name};
-ghost use Rattle.hb_instance.specs.Giving.{after, Gives, HasInstance};
+ghost use Rattle.hb_instance.specs.Giving.{after, Gives, HasInstance, HasKept, IsKept, Keeps};
 ghost use Rattle.hb_instance.specs.Heads.{HasNames};
 
 use crate::allowing::allowed_by_text;
@@ -54,6 +54,9 @@ pub fn apply(
     ensures hier { OnOk result
         (HasInstance (act taken.now.kind) (background world.old).section theory.old world.old.hier
         world.new.hier) }
+    ensures section { OnOk result
+        (HasKept (act taken.now.kind) world.old.hier (background world.old).section
+        (background world.new).section) }
 {
     match &taken.kind {
         CommandKind::Instance {
@@ -111,6 +114,9 @@ fn take(
         (Gives (background world.old).section theory.old written.entry.factory.name
         written.entry.carrier.name (binder_names written.entry.binders.now) world.old.hier
         world.new.hier) }
+    ensures section { OnOk result
+        (IsKept world.old.hier written.entry.factory.name (background world.old).section
+        (background world.new).section) }
 {
     check_name(theory, world, written)?;
     let allowed = allowed_by_text(alloc, theory, world, written, limits)?;
@@ -158,6 +164,8 @@ fn finish(
     ensures names { Extends world.old.names world.new.names }
     ensures gave { OnOk result (world.new.hier ≡ after world.old.hier allowed.now.target
         allowed.now.factory) }
+    ensures section { OnOk result (Keeps allowed.now.gives (background world.old).section
+        (background world.new).section) }
 {
     let mark = Mark::new(theory, world);
     match both(alloc, theory, world, allowed, name, value, spots, limits) {
@@ -184,6 +192,8 @@ fn both(
     ensures grown { IfOk result (λ ds. theory.new ≡ theory.old ++ plains ds.items) }
     ensures gave { OnOk result (world.new.hier ≡ after world.old.hier allowed.now.target
         allowed.now.factory) }
+    ensures section { OnOk result (Keeps allowed.now.gives (background world.old).section
+        (background world.new).section) }
 {
     let prepared = prepare(alloc, theory.env(), world, allowed, name, value, spots)?;
     settle(

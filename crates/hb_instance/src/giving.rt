@@ -4,7 +4,7 @@ ghost use Rattle.hb_env.specs.Plain.{plains};
 ghost use Rattle.hb_hier.specs.Undoing as hiers;
 ghost use Rattle.hb_tables.specs.Growing as growing;
 ghost use Rattle.hb_world.specs.Worlds.{background, IsAsBefore};
-ghost use Rattle.hb_instance.specs.Giving.{after};
+ghost use Rattle.hb_instance.specs.Giving.{after, Keeps};
 ghost use Rattle.hb_instance.specs.Growing.{HasGrown};
 
 use crate::coherent::{Constants, check_coherent};
@@ -54,6 +54,8 @@ pub(crate) fn prepare(
     ensures grown { HasGrown (background world.old) (background world.new) }
     ensures gave { OnOk result (world.new.hier ≡ after world.old.hier allowed.now.target
         allowed.now.factory) }
+    ensures section { OnOk result (Keeps allowed.now.gives (background world.old).section
+        (background world.new).section) }
 {
     let own = give(alloc, env, world, allowed, name, value, spots)?;
     let taken = take(alloc, env, world, allowed, &own, spots)?;
@@ -73,6 +75,8 @@ fn give(
     ensures grown { HasGrown (background world.old) (background world.new) }
     ensures gave { OnOk result (world.new.hier ≡ after world.old.hier allowed.now.target
         allowed.now.factory) }
+    ensures section { OnOk result (Keeps allowed.now.gives (background world.old).section
+        (background world.new).section) }
 {
     let named = name.is_some();
     let own = given(alloc, env, world, allowed, name, value, spots.place)?;
@@ -91,6 +95,7 @@ fn take(
 ) -> Result<Pack, Refusal>
     ensures grown { HasGrown (background world.old) (background world.new) }
     ensures same { world.new.hier ≡ world.old.hier }
+    ensures section { (background world.new).section ≡ (background world.old).section }
 {
     let taken = taken(alloc, env, world, allowed, spots.place)?;
     enter_after(&mut world.tables, env, own, &taken.roles, spots.factory)?;
@@ -191,6 +196,8 @@ fn keep(
     ensures grown { HasGrown (background world.old) (background world.new) }
     ensures gave { OnOk result (world.new.hier ≡ after world.old.hier allowed.now.target
         allowed.now.factory) }
+    ensures section { OnOk result (Keeps allowed.now.gives (background world.old).section
+        (background world.new).section) }
 {
     give_constant(&mut world.hier, allowed, factory)?;
     enter_at(&mut world.tables, env.len(), &own.roles, factory)?;

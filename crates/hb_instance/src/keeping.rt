@@ -1,10 +1,11 @@
 //! What an instance leaves in the section where it stands.
-ghost use Rattle.std.specs.Prelude.{◌≡◌, ◌++◌, List};
+ghost use Rattle.std.specs.Prelude.{◌≡◌, ◌++◌, List, OnOk};
 ghost use Rattle.std.specs.Option.{option_map};
 ghost use Rattle.hb_base.specs.declared.name_id.NameId as name_ids;
 ghost use Rattle.hb_tree.specs.Tree.{Tree};
 ghost use Rattle.hb_world.specs.Worlds.{opened, value_of};
 ghost use Rattle.hb_step.specs.Marks.{SectionGrew, OpenedGrew};
+ghost use Rattle.hb_instance.specs.Giving.{HasGiven, Keeps};
 ghost use Rattle.hb_instance.specs.Growing.{HasMore};
 
 use hb_base::{NameId, Span};
@@ -29,18 +30,18 @@ pub(crate) fn grown_section(
     own: &Made,
     place: Span,
 ) -> (Option<Section>, Result<(), Refusal>)
-    ensures { SectionGrew (option_map opened section) (option_map opened result.0) }
+    ensures grew { SectionGrew (option_map opened section) (option_map opened result.0) }
+    ensures kept { OnOk result.1
+        (Keeps gives.now (option_map opened section) (option_map opened result.0)) }
 {
     match section {
         None => (None, Ok(())),
         Some(section) => {
             let mut section = section;
-            let kept = grow(alloc, hier, tables, &mut section, gives, own);
-            let answer = match kept {
-                Ok(()) => Ok(()),
-                Err(_) => Err(refused(place, What::NoMemory)),
-            };
-            (Some(section), answer)
+            match grow(alloc, hier, tables, &mut section, gives, own) {
+                Ok(()) => (Some(section), Ok(())),
+                Err(_) => (Some(section), Err(refused(place, What::NoMemory))),
+            }
         }
     }
 }
@@ -54,7 +55,8 @@ fn grow(
     gives: &MixSet,
     own: &Made,
 ) -> Result<(), AllocError>
-    ensures { OpenedGrew (opened section.old) (opened section.new) }
+    ensures grew { OpenedGrew (opened section.old) (opened section.new) }
+    ensures gave { OnOk result (HasGiven gives.now (opened section.old) (opened section.new)) }
 {
     add_names(&mut section.definitions, &own.decls)?;
     let factory = section.factory;

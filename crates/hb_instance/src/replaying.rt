@@ -4,7 +4,9 @@ ghost use Rattle.hb_env.specs.Plain.{plains};
 ghost use Rattle.hb_world.specs.Worlds.{background, IsAsBefore};
 ghost use Rattle.hb_world.specs.Taking.{Extends};
 ghost use Rattle.hb_step.specs.Marks.{Since};
-ghost use Rattle.hb_instance.specs.Giving.{after, asked, asked_by, HasInstanceOf, IsTarget};
+ghost use Rattle.hb_hier.specs.Giving.{provided_or_none};
+ghost use Rattle.hb_hier.specs.Hierarchy.{known_as};
+ghost use Rattle.hb_instance.specs.Giving.{after, asked, asked_by, HasInstanceOf, HasKeptOf, IsTarget, Keeps};
 
 use crate::allowing::{at_constant, in_section, known_factory, structure_named};
 use crate::carrier::carrier_of;
@@ -50,6 +52,9 @@ pub fn replay(
     ensures hier { OnOk result
         (HasInstanceOf entry.now.head (background world.old).section theory.old world.old.hier
         world.new.hier) }
+    ensures section { OnOk result
+        (HasKeptOf entry.now.head world.old.hier (background world.old).section
+        (background world.new).section) }
 {
     let Head::Instance {
         factory,
@@ -97,6 +102,8 @@ fn both(
     ensures grown { OnOk result (theory.new ≡ theory.old ++ plains entry.now.decls.items) }
     ensures gave { OnOk result (world.new.hier ≡ after world.old.hier allowed.now.target
         allowed.now.factory) }
+    ensures section { OnOk result (Keeps allowed.now.gives (background world.old).section
+        (background world.new).section) }
 {
     let spots = Spots {
         place: places.span,
@@ -154,6 +161,8 @@ fn allowed_by_head(
         heading.entry.carrier
         (asked world.now.hier heading.entry.binders.now) a.target) }
     ensures factory { IfOk result (λ a. a.factory ≡ heading.entry.factory) }
+    ensures gives { IfOk result
+        (λ a. a.gives ≡ provided_or_none world.now.hier (known_as world.now.hier heading.entry.factory)) }
 {
     let span = places.span;
     let asked = asked_structures(alloc, &world.hier, heading.binders, places)?;

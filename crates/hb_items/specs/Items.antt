@@ -1,5 +1,5 @@
 -- What the commands on a hierarchy say of names.
-use Rattle.std.specs.Prelude.{◌≡◌, ◌⊎◌, List, [], ◌∷◌, Some, None}
+use Rattle.std.specs.Prelude.{◌≡◌, ◌⊎◌, ℕ, ◌<◌, List, [], ◌∷◌, length, slice_index_or, Some, None}
 use Rattle.std.specs.Option.{unwrap_or}
 use Rattle.hb_base.specs.declared.name_id.NameId.{NameId}
 use Rattle.hb_base.specs.declared.span.Span.{Span}
@@ -13,7 +13,7 @@ use Rattle.hb_hier.specs.declared.error.HierRefused.TheVariants as hier
 use Rattle.hb_hier.specs.declared.known.Known.{Known}
 use Rattle.hb_hier.specs.declared.known.Known.TheVariants.{Mixin, Structure}
 use Rattle.hb_hier.specs.Hierarchy.{Hierarchy, nameless, name_of}
-use Rattle.hb_hier.specs.Declaring.{fault}
+use Rattle.hb_hier.specs.Declaring.{fault, NoFault}
 use Rattle.hb_raw.specs.declared.word.Item.{Item}
 
 -- the name of what was declared; the first name where it wasn't
@@ -45,6 +45,13 @@ pub record IsFault (h : Hierarchy) (n : NameId) (s : Span) (r : Refusal) : Type 
   pub cause : HierRefused
   pub fault_is : fault h n ≡ Some cause
   pub refusal : r ≡ record { span = s; what = told h n cause }
+
+-- the first name of a list that can't stand there, and the refusal says so at the place
+pub record IsFirstFault (h : Hierarchy) (ns : List NameId) (s : Span) (r : Refusal) : Type 0 where
+  pub at : ℕ
+  pub within : at < length ns
+  pub cause : IsFault h (slice_index_or ns at nameless) s r
+  pub before : NoFault h ns at
 
 -- the item's name stands in a list, and it stands at another carrier
 pub record IsElsewhere (h : Hierarchy) (carrier : NameId) (i : Item) (r : Refusal) : Type 0 where

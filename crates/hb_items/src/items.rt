@@ -1,7 +1,7 @@
 //! The items of a list: each a mixin, a factory or a structure at the command's carrier.
 ghost use Rattle.std.specs.Prelude.{◌≡◌, length, map, None, IfOk, IfErr, OnOk};
 ghost use Rattle.hb_hier.specs.Declaring.{fault, NoFault};
-ghost use Rattle.hb_items.specs.Items.{IsFault, IsItem, AreItems, ItemCause, ItemsCause};
+ghost use Rattle.hb_items.specs.Items.{IsFault, IsItem, AreItems, ItemCause, ItemsCause, IsFirstFault};
 
 use crate::hierarchy::of_hierarchy;
 use hb_base::{NameId, Span};
@@ -55,6 +55,7 @@ fn check_name(hier: &Hier, name: NameId, span: Span) -> Result<(), Refusal>
 /// Each name of a library's list may stand there; the first that may not is refused at the entry's place.
 pub fn check_names(hier: &Hier, items: &[NameId], span: Span) -> Result<(), Refusal>
     ensures usable { OnOk result (NoFault hier.now items.now (length items.now)) }
+    ensures refused { IfErr result (IsFirstFault hier.now items.now span) }
 {
     for name in items {
         check_name(hier, *name, span)?;

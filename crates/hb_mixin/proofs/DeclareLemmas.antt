@@ -10,7 +10,7 @@ use Rattle.hb_raw.specs.declared.word.Word.{Word}
 use Rattle.hb_world.specs.Taking.{factory_names}
 use Rattle.hb_mixin.specs.Declaring.{field_names, HasDeclared}
 
-written_fields : (fs : List Field) → map (λ f. f.name.name) fs ≡ field_names (map field fs)
+pub written_fields : (fs : List Field) → map (λ f. f.name.name) fs ≡ field_names (map field fs)
 written_fields [] = refl
 written_fields (f ∷ fs) = ap (λ l. f.name.name ∷ l) (written_fields fs)
 

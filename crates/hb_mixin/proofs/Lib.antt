@@ -1,1 +1,4 @@
 mod DeclareLemmas
+pub mod NamingLemmas
+mod RefuseLemmas
+mod WrittenLemmas

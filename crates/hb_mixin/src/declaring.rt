@@ -1,12 +1,27 @@
 //! Declaring the record of a mixin or a factory.
-ghost use Rattle.std.specs.Prelude.{◌≡◌, ◌++◌, ◌∷◌, [], false, None, IfOk, OnOk, OnErr};
-ghost use Rattle.hb_env.specs.Plain.{plain, plains};
-ghost use Rattle.hb_hier.specs.Declaring.{with_mixin, with_factory};
+ghost use Rattle.std.specs.Prelude.{◌≡◌, ◌++◌, ◌∷◌, [], ℕ, List, false, None, IfOk, IfErr, OnOk, OnErr, codes};
+ghost use Rattle.std.specs.Option.{unwrap_or};
+ghost use Rattle.hb_calculus.specs.Budget.{budget};
+ghost use Rattle.hb_env.specs.Plain.{plain, plains, plain_fields};
+ghost use Rattle.hb_env.specs.declared.refusal.What.TheVariants.{NoMemory};
+ghost use Rattle.hb_generated.specs.State.{State, Own};
+ghost use Rattle.hb_generated.specs.State as generated;
+ghost use Rattle.hb_generated.specs.Generating.{gen_record};
+ghost use Rattle.hb_hier.specs.Hierarchy as hierarchy;
+ghost use Rattle.hb_pack.specs.Packing.{IsRecordOf};
 ghost use Rattle.hb_world.specs.Worlds.{background, IsAsBefore};
 ghost use Rattle.hb_world.specs.Taking.{Extends};
-ghost use Rattle.hb_mixin.specs.Adding.{with_kind};
+ghost use Rattle.hb_mixin.specs.Adding.{with_kind, making};
+ghost use Rattle.hb_mixin.specs.Declaring.{AreMade};
+ghost use Rattle.hb_mixin.specs.Fields.{AreNamesOf};
+ghost use Rattle.hb_mixin.specs.Refusing.{refusal, HasNoRoomFor, NotDeclared};
+ghost use Rattle.hb_mixin.specs.Steps.{family, leveled, AddFails, HasUnfit, IsNotAdded, IsNotTaken, OrNoMemory, PassesCount};
+ghost use Rattle.hb_items.specs.Items.{told};
+ghost use Rattle.hb_kernel.specs.Answers.{AddRefusal};
+ghost use Rattle.hb_step.specs.Adding.{NotAdded};
 
-use hb_base::{Count, Limits, NameId, Names, NamesRefused, Span};
+use crate::naming::maker_name;
+use hb_base::{Count, Limits, NameId, Span};
 use hb_env::{Decl, Env, Refusal, What};
 use hb_hier::{Hier, HierRefused};
 use hb_items::of_hierarchy;
@@ -53,6 +68,11 @@ pub(crate) fn declare(
     ensures hier { OnOk result
         (world.new.hier ≡ with_kind naming.entry.kind world.old.hier naming.entry.name
         naming.entry.items.now naming.entry.shorts.now) }
+    ensures section { world.new.section ≡ world.old.section }
+    ensures refused { IfErr result
+        (λ r. AreNamesOf world.old.names naming.entry.name naming.entry.shorts.now fields.items
+        → NotDeclared world.new.names theory.old world.old.hier (budget limits.now) (family naming.entry.kind)
+        naming.entry.name naming.entry.items.now naming.entry.shorts.now place r) }
 {
     let decls = record_for(alloc, theory.env(), world, naming, fields, level, place)?;
     check_made_names(theory.env(), &world.hier, &decls, place)?;
@@ -79,7 +99,14 @@ pub(crate) fn record_for(
     level: Option<u8>,
     place: Span,
 ) -> Result<Vec<Decl>, Refusal>
-    ensures { IsAsBefore (background world.old) (background world.new) }
+    ensures as_before { IsAsBefore (background world.old) (background world.new) }
+    ensures section { world.new.section ≡ world.old.section }
+    ensures made { IfOk result
+        (λ ds. AreNamesOf world.old.names naming.entry.name naming.entry.shorts.now fields.items
+        → AreMade world.new.names env.now world.old.hier (making naming.entry.kind naming.entry.items.now)
+        naming.entry.name naming.entry.shorts.now (plains ds.items)) }
+    ensures refused { IfErr result
+        (OrNoMemory (HasNoRoomFor world.new.names naming.entry.name (codes ".Build") place)) }
 {
     let maker = maker_name(alloc, &mut world.names, naming.name, place)?;
     let decl = record_of(alloc, env, &world.hier, naming, maker, fields, level, place)?;
@@ -90,7 +117,9 @@ pub(crate) fn record_for(
 }
 
 /// The list of the one declaration.
-fn one(alloc: Global, decl: Decl) -> Result<Vec<Decl>, AllocError> {
+fn one(alloc: Global, decl: Decl) -> Result<Vec<Decl>, AllocError>
+    ensures { IfOk result (λ ds. plains ds.items ≡ plain decl ∷ []) }
+{
     let mut decls = Vec::new(alloc);
     decls.push(decl)?;
     Ok(decls)
@@ -106,7 +135,14 @@ fn record_of(
     fields: Vec<(NameId, Term)>,
     level: Option<u8>,
     place: Span,
-) -> Result<Decl, Refusal> {
+) -> Result<Decl, Refusal>
+    ensures made { IfOk result
+        (λ d. (N : List (List ℕ)) (S : State) (o : Own)
+        → IsRecordOf N S naming.entry.items.now o env.now hier.now naming.entry.name.0 maker.0
+        (hierarchy.brought hier.now naming.entry.items.now) (unwrap_or level 0) (plain_fields fields.items)
+        → plain d ∷ [] ≡ generated.decls (gen_record N S naming.entry.items.now o)) }
+    ensures refused { IfErr result (λ r. r.what ≡ NoMemory) }
+{
     let required = hier.brought(naming.items);
     let level = level.unwrap_or(0);
     match mixin_decl(
@@ -130,7 +166,9 @@ pub(crate) fn check_made_names(
     hier: &Hier,
     decls: &[Decl],
     place: Span,
-) -> Result<(), Refusal> {
+) -> Result<(), Refusal>
+    ensures refused { IfErr result (HasUnfit env.now hier.now (plains decls.now) place) }
+{
     match first_taken(env, hier, &[], decls) {
         Some(taken) => Err(refused(place, What::Redeclared(taken))),
         None => Ok(()),
@@ -144,7 +182,9 @@ pub(crate) fn check_counts(
     kind: Kind,
     decls: &[Decl],
     place: Span,
-) -> Result<(), Refusal> {
+) -> Result<(), Refusal>
+    ensures refused { IfErr result (PassesCount env.now hier.now kind (plains decls.now) place) }
+{
     match kind {
         Kind::Mixin => {
             if hier.mixins() == 1024 {
@@ -161,48 +201,6 @@ pub(crate) fn check_counts(
         Some(count) => Err(refused(place, What::TooMany(count))),
         None => Ok(()),
     }
-}
-
-/// The number of the maker's name.
-pub(crate) fn maker_name(
-    alloc: Global,
-    names: &mut Names,
-    name: NameId,
-    place: Span,
-) -> Result<NameId, Refusal>
-    ensures { Extends names.old names.new }
-{
-    let Ok(text) = maker_text(alloc, names, name) else {
-        return Err(refused(place, What::NoMemory));
-    };
-    numbered(names, &text, place)
-}
-
-/// The number of the text.
-pub(crate) fn numbered(names: &mut Names, text: &str, place: Span) -> Result<NameId, Refusal>
-    ensures { Extends names.old names.new }
-{
-    match names.number(text) {
-        Ok(id) => Ok(id),
-        Err(NamesRefused::TooMany) => Err(refused(place, What::TooMany(Count::Names))),
-        Err(NamesRefused::NoMemory) => Err(refused(place, What::NoMemory)),
-    }
-}
-
-/// The text of the name, empty where it isn't held.
-pub(crate) fn text_of(names: &Names, name: NameId) -> &str {
-    if usize::from(name.0) < names.len() {
-        names.text(name)
-    } else {
-        ""
-    }
-}
-
-/// The text of the maker's name.
-fn maker_text(alloc: Global, names: &Names, name: NameId) -> Result<String, AllocError> {
-    let mut text = String::from_str(alloc, text_of(names, name))?;
-    text.push_str(".Build")?;
-    Ok(text)
 }
 
 /// Adds the one record to the theory, and the mixin or factory to the hierarchy.
@@ -223,6 +221,9 @@ pub(crate) fn add(
     ensures hier { OnOk result
         (hier.new ≡ with_kind naming.entry.kind hier.old naming.entry.name naming.entry.items.now
         naming.entry.shorts.now) }
+    ensures refused { IfErr result
+        (AddFails theory.old hier.old (budget limits.now) naming.entry.kind naming.entry.name
+        naming.entry.items.now (plains decls.items) place) }
 {
     let before = theory.env().len();
     let added = add_records(alloc, theory, decls, least, place, limits)?;
@@ -241,6 +242,8 @@ fn add_to_hierarchy(hier: &mut Hier, naming: Naming<'_>, place: Span) -> Result<
     ensures hier { OnOk result
         (hier.new ≡ with_kind naming.entry.kind hier.old naming.entry.name naming.entry.items.now
         naming.entry.shorts.now) }
+    ensures refused { IfErr result
+        (IsNotTaken hier.old naming.entry.kind naming.entry.name naming.entry.items.now place) }
 {
     if hier.known(naming.name).is_some() {
         return Err(refused(place, What::Redeclared(naming.name)));
@@ -258,7 +261,9 @@ fn add_to_hierarchy(hier: &mut Hier, naming: Naming<'_>, place: Span) -> Result<
 }
 
 /// The refusal of the hierarchy.
-fn of_adding(hier: &Hier, name: NameId, fault: HierRefused, place: Span) -> Refusal {
+fn of_adding(hier: &Hier, name: NameId, fault: HierRefused, place: Span) -> Refusal
+    ensures { result ≡ refusal place (told hier.now name fault) }
+{
     refused(place, of_hierarchy(hier, name, fault))
 }
 
@@ -274,6 +279,9 @@ fn add_records(
     ensures unchanged { OnErr result (theory.new ≡ theory.old) }
     ensures grown { IfOk result (λ ds. theory.new ≡ theory.old ++ plains ds.items) }
     ensures kept { least ≡ false → IfOk result (λ ds. plains ds.items ≡ plains decls.items) }
+    ensures refused { IfErr result
+        (λ r. (d : _) → plains decls.items ≡ d ∷ []
+        → OrNoMemory (IsNotAdded theory.old (budget limits.now) d place) r) }
 {
     let mut decls = decls;
     let (Some(decl), None) = (decls.pop(), decls.pop()) else {
@@ -299,6 +307,7 @@ fn add_record(
     ensures unchanged { OnErr result (theory.new ≡ theory.old) }
     ensures grown { IfOk result (λ d. theory.new ≡ theory.old ++ plain d ∷ []) }
     ensures kept { least ≡ false → IfOk result (λ d. d ≡ decl) }
+    ensures refused { IfErr result (IsNotAdded theory.old (budget limits.now) (plain decl) place) }
 {
     match add_copy(alloc, theory, &decl, limits) {
         Ok(()) => Ok(decl),
@@ -319,6 +328,8 @@ fn add_leveled(
 ) -> Result<Decl, Refusal>
     ensures unchanged { OnErr result (theory.new ≡ theory.old) }
     ensures grown { IfOk result (λ d. theory.new ≡ theory.old ++ plain d ∷ []) }
+    ensures refused { IfErr result
+        (λ r. (r.span ≡ place) × NotAdded theory.old (budget limits.now) (plain decl) r.what) }
 {
     match add_copy(alloc, theory, &decl, limits) {
         Ok(()) => Ok(decl),
@@ -335,6 +346,7 @@ fn add_copy(
 ) -> Result<(), KernelRefused>
     ensures unchanged { OnErr result (theory.new ≡ theory.old) }
     ensures grown { OnOk result (theory.new ≡ theory.old ++ plain decl.now ∷ []) }
+    ensures refused { IfErr result (AddRefusal theory.old (budget limits.now) (plain decl.now)) }
 {
     let Ok(copy) = decl.copy(alloc) else {
         return Err(KernelRefused::NoMemory);
@@ -363,7 +375,9 @@ fn wanted_level(fault: &KernelRefused, least: bool) -> Option<u8>
 }
 
 /// The record with the level.
-fn with_level(decl: Decl, least: u8) -> Decl {
+fn with_level(decl: Decl, least: u8) -> Decl
+    ensures { plain result ≡ leveled least (plain decl) }
+{
     match decl {
         Decl::Record {
             name,

@@ -1,9 +1,13 @@
 //! The fields of mixins and factories.
-ghost use Rattle.std.specs.Prelude.{◌≡◌, map, IfOk};
+ghost use Rattle.std.specs.Prelude.{◌≡◌, ◌+◌, length, map, IfOk, IfErr, OnOk};
+ghost use Rattle.hb_mixin.specs.Fields.{AreNamesOf};
+ghost use Rattle.hb_mixin.specs.Refusing.{HasNoNumber};
+ghost use Rattle.hb_mixin.specs.Steps.{OrNoMemory};
+ghost use Rattle.hb_step.specs.Elaborating.{IsOfElaboration};
 ghost use Rattle.hb_world.specs.Taking.{Extends};
 
 use crate::command::Written;
-use crate::declaring::{numbered, text_of};
+use crate::naming::field_name;
 use hb_base::{Limits, NameId, Names};
 use hb_elab::{Local, Work, elab_type};
 use hb_env::{Refusal, What};
@@ -28,7 +32,10 @@ pub(crate) fn elaborate(
     written: Written<'_>,
     items: &[NameId],
     limits: &Limits,
-) -> Result<Vec<Term>, Refusal> {
+) -> Result<Vec<Term>, Refusal>
+    ensures count { IfOk result (λ ts. length ts.items ≡ length written.entry.fields.now) }
+    ensures refused { IfErr result (λ r. IsOfElaboration r.what) }
+{
     let required = world.hier.brought(items);
     let Ok(own) = carrier_of(alloc, &required) else {
         return Err(refused(written.name.span, What::NoMemory));
@@ -60,7 +67,9 @@ fn field_type(
     field: &Field,
     work: &mut Work,
     limits: &Limits,
-) -> Result<Term, Refusal> {
+) -> Result<Term, Refusal>
+    ensures { IfErr result (λ r. IsOfElaboration r.what) }
+{
     match elab_type(alloc, theory.env(), world, local, &field.ty, work, limits) {
         Ok(Typed { term, ty: _ }) => Ok(term),
         Err(fault) => Err(of_elaboration(fault)),
@@ -73,7 +82,9 @@ fn keep(
     types: &mut Vec<Term>,
     name: NameId,
     ty: Term,
-) -> Result<(), AllocError> {
+) -> Result<(), AllocError>
+    ensures { OnOk result (length types.new.items ≡ length types.old.items + 1) }
+{
     scopes.push((Some(name), ty.copy()?))?;
     types.push(ty)?;
     Ok(())
@@ -121,7 +132,10 @@ pub(crate) fn full_names(
     shorts: &[NameId],
     types: Vec<Term>,
 ) -> Result<Vec<(NameId, Term)>, Refusal>
-    ensures { Extends names.old names.new }
+    ensures kept { Extends names.old names.new }
+    ensures named { length types.items ≡ length shorts.now
+        → IfOk result (λ fs. AreNamesOf names.new name.name shorts.now fs.items) }
+    ensures refused { IfErr result (OrNoMemory (HasNoNumber names.new name.name shorts.now name.span)) }
 {
     let mut full = Vec::new(alloc);
     let mut left = types;
@@ -130,35 +144,12 @@ pub(crate) fn full_names(
         let Some(ty) = left.pop() else {
             return Ok(full);
         };
-        let id = full_name(alloc, names, name, *short)?;
+        let id = field_name(alloc, names, name.name, *short, name.span)?;
         let Ok(()) = full.push((id, ty)) else {
             return Err(refused(name.span, What::NoMemory));
         };
     }
     Ok(full)
-}
-
-/// The whole name of a field.
-fn full_name(alloc: Global, names: &mut Names, name: Word, field: NameId) -> Result<NameId, Refusal>
-    ensures { Extends names.old names.new }
-{
-    let Ok(text) = whole_text(alloc, names, name.name, field) else {
-        return Err(refused(name.span, What::NoMemory));
-    };
-    numbered(names, &text, name.span)
-}
-
-/// The text of a field's whole name.
-fn whole_text(
-    alloc: Global,
-    names: &Names,
-    name: NameId,
-    field: NameId,
-) -> Result<String, AllocError> {
-    let mut text = String::from_str(alloc, text_of(names, name))?;
-    text.push_str(".")?;
-    text.push_str(text_of(names, field))?;
-    Ok(text)
 }
 
 /// The names of the fields, as they are written.

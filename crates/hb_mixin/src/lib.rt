@@ -4,6 +4,7 @@
 mod command;
 mod declaring;
 mod fields;
+mod naming;
 mod replaying;
 
 pub use command::apply;

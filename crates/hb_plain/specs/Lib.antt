@@ -1,3 +1,6 @@
 -- what public contracts rest on
-pub mod Sections
+pub mod Declaring
 pub mod Queries
+pub mod Refusing
+pub mod Sections
+pub mod Loading

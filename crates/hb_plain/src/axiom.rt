@@ -1,10 +1,15 @@
 //! Axioms.
-ghost use Rattle.std.specs.Prelude.{◌≡◌, ◌++◌, IfOk, OnOk, OnErr};
+ghost use Rattle.std.specs.Prelude.{◌≡◌, ◌++◌, None, IfOk, IfErr, OnOk, OnErr};
+ghost use Rattle.hb_calculus.specs.Budget.{budget};
 ghost use Rattle.hb_env.specs.Plain.{plains};
 ghost use Rattle.hb_env.specs.declared.entry.Head.TheVariants as head;
+ghost use Rattle.hb_world.specs.Worlds.{background};
 ghost use Rattle.hb_world.specs.Taking.{HasAdded};
+ghost use Rattle.hb_step.specs.Elaborating.{IsOfElaboration};
+ghost use Rattle.hb_plain.specs.Declaring.{AddsOne, IsFree, IsAxiomOf, IsOne};
+ghost use Rattle.hb_plain.specs.Refusing.{NoAxiom, NotAddedAt, NotFree};
 
-use hb_base::{Limits, Span};
+use hb_base::{Limits, NameId, Span};
 use hb_elab::{Local, Work, elab_type};
 use hb_env::{Decl, Entry, Head, Refusal, What};
 use hb_kernel::Theory;
@@ -29,6 +34,9 @@ pub(crate) fn axiom(
     ensures added { IfOk result (HasAdded theory.old theory.new) }
     ensures head { IfOk result (λ entry. entry.head ≡ head.Axiom) }
     ensures unchanged { OnErr result (theory.new ≡ theory.old) }
+    ensures outside { OnOk result (world.now.section ≡ None) }
+    ensures declared { OnOk result (AddsOne theory.old (background world.now) name.name (IsAxiomOf name.name) theory.new) }
+    ensures refused { IfErr result (NoAxiom theory.old (background world.now) (budget limits.now) span name ty.now.span) }
 {
     let entry = match axiom_entry(alloc, theory, world, span, name, ty, limits) {
         Ok(entry) => entry,
@@ -51,15 +59,32 @@ fn axiom_entry(
     limits: &Limits,
 ) -> Result<Entry, Refusal>
     ensures head { IfOk result (λ entry. entry.head ≡ head.Axiom) }
+    ensures outside { OnOk result (world.now.section ≡ None) }
+    ensures free { OnOk result (IsFree theory.now (background world.now) name.name) }
+    ensures declared { IfOk result (λ entry. IsOne (IsAxiomOf name.name) (plains entry.decls.items)) }
+    ensures refused { IfErr result (NoAxiom theory.now (background world.now) (budget limits.now) span name ty.now.span) }
 {
     outside_section(world, span)?;
-    not_reserved(&world.names, name.name, name.span)?;
-    not_taken(theory.env(), &world.hier, name.name, name.span)?;
+    is_free(theory, world, name.name, name.span)?;
     let ty = type_of(alloc, theory, world, ty, limits)?;
     match entry_of(alloc, name, ty) {
         Ok(entry) => Ok(entry),
         Err(_) => Err(refused(name.span, What::NoMemory)),
     }
+}
+
+/// A declared name at its place is new, and not kept for generated ones.
+pub(crate) fn is_free(
+    theory: &Theory,
+    world: &World,
+    name: NameId,
+    span: Span,
+) -> Result<(), Refusal>
+    ensures free { OnOk result (IsFree theory.now (background world.now) name) }
+    ensures refused { IfErr result (NotFree theory.now (background world.now) name span) }
+{
+    not_reserved(&world.names, name, span)?;
+    not_taken(theory.env(), &world.hier, name, span)
 }
 
 /// The written type of an axiom.
@@ -69,7 +94,9 @@ fn type_of(
     world: &World,
     ty: &Raw,
     limits: &Limits,
-) -> Result<Term, Refusal> {
+) -> Result<Term, Refusal>
+    ensures refused { IfErr result (λ r. IsOfElaboration r.what) }
+{
     let Ok(local) = Local::new(alloc, None) else {
         return Err(refused(ty.span, What::NoMemory));
     };
@@ -83,6 +110,7 @@ fn type_of(
 /// The entry of an axiom.
 fn entry_of(alloc: Global, name: Word, ty: Term) -> Result<Entry, AllocError>
     ensures head { IfOk result (λ entry. entry.head ≡ head.Axiom) }
+    ensures declared { IfOk result (λ entry. IsOne (IsAxiomOf name.name) (plains entry.decls.items)) }
 {
     let mut decls = Vec::new(alloc);
     decls.push(Decl::Axiom {
@@ -107,6 +135,7 @@ pub(crate) fn declare(
 ) -> Result<(), Refusal>
     ensures added { OnOk result (theory.new ≡ theory.old ++ plains entry.now.decls.items) }
     ensures unchanged { OnErr result (theory.new ≡ theory.old) }
+    ensures refused { IfErr result (NotAddedAt theory.old (budget limits.now) (plains entry.now.decls.items) name ty body) }
 {
     if let Some(count) = passed_count(theory.env(), &entry.decls) {
         return Err(refused(name, What::TooMany(count)));

@@ -1,9 +1,13 @@
 //! Taking a command.
-ghost use Rattle.std.specs.Prelude.{◌≡◌, IfOk, OnErr};
-ghost use Rattle.hb_raw.specs.Views.{act};
+ghost use Rattle.std.specs.Prelude.{◌≡◌, IfOk, IfErr, OnOk, OnErr};
+ghost use Rattle.hb_calculus.specs.Budget.{budget};
+ghost use Rattle.hb_raw.specs.Views.{act, command};
 ghost use Rattle.hb_env.specs.declared.entry.Head.TheVariants as head;
 ghost use Rattle.hb_world.specs.Worlds.{IsAsBefore, background};
 ghost use Rattle.hb_world.specs.Taking.{HasAdded, HasGrown, HasHead, Extends};
+ghost use Rattle.hb_plain.specs.Declaring.{Declares};
+ghost use Rattle.hb_plain.specs.Refusing.{Refuses};
+ghost use Rattle.hb_plain.specs.Sections.{section_after};
 
 use crate::axiom::axiom;
 use crate::definition::{Written, definition};
@@ -33,6 +37,12 @@ pub fn apply(
     ensures as_before { OnErr result (IsAsBefore (background world.old) (background world.new)) }
     ensures names { Extends world.old.names world.new.names }
     ensures hier { world.new.hier ≡ world.old.hier }
+    ensures declared { OnOk result
+        (Declares (act taken.now.kind) theory.old (background world.old) theory.new) }
+    ensures section { OnOk result
+        ((background world.new).section ≡ section_after (act taken.now.kind) (background world.old).section) }
+    ensures refused { IfErr result
+        (Refuses theory.old (background world.old) (budget limits.now) (command taken.now)) }
 {
     match &taken.kind {
         CommandKind::Axiom { name, ty } => {

@@ -1,19 +1,25 @@
 //! Definitions.
-ghost use Rattle.std.specs.Prelude.{◌≡◌, ◌++◌, IfOk, OnOk, OnErr};
+ghost use Rattle.std.specs.Prelude.{◌≡◌, ◌++◌, IfOk, IfErr, OnOk, OnErr};
 ghost use Rattle.std.specs.Option.{option_map};
+ghost use Rattle.hb_calculus.specs.Budget.{budget};
+ghost use Rattle.hb_term.specs.Meaning.{tree};
 ghost use Rattle.hb_env.specs.Plain.{plains};
 ghost use Rattle.hb_env.specs.declared.entry.Head.TheVariants as head;
 ghost use Rattle.hb_world.specs.Worlds.{IsAsBefore, background, opened};
 ghost use Rattle.hb_world.specs.Taking.{HasAdded};
+ghost use Rattle.hb_step.specs.Elaborating.{IsOfElaboration};
+ghost use Rattle.hb_plain.specs.Declaring.{AddsOne, IsClosedIn, IsFree, IsDefinitionOf, IsOne};
+ghost use Rattle.hb_plain.specs.Refusing.{NotDeclared, NotAddedAt, type_place};
 ghost use Rattle.hb_plain.specs.Sections.{HasRoom, with_name};
 
-use crate::axiom::declare;
+use crate::axiom::{declare, is_free};
 use hb_base::{Limits, NameId};
 use hb_elab::{Local, Work, elab_definition};
 use hb_env::{Decl, Entry, Head, Refusal, What};
 use hb_kernel::Theory;
 use hb_raw::{Binder, Raw, Word};
-use hb_step::{closed_body, closed_type, not_reserved, not_taken, of_elaboration, refused};
+use hb_step::{closed_body, closed_type, of_elaboration, refused};
+use hb_term::Term;
 use hb_world::{Section, Typed, World};
 use std::alloc::{AllocError, Global};
 
@@ -40,6 +46,15 @@ pub(crate) fn definition(
     ensures as_before { OnErr result (IsAsBefore (background world.old) (background world.new)) }
     ensures names { world.new.names ≡ world.old.names }
     ensures hier { world.new.hier ≡ world.old.hier }
+    ensures declared { OnOk result
+        (AddsOne theory.old (background world.old) written.entry.name.name
+        (IsDefinitionOf (background world.old).section written.entry.name.name) theory.new) }
+    ensures section { OnOk result
+        ((background world.new).section ≡ with_name written.entry.name.name (background world.old).section) }
+    ensures refused { IfErr result
+        (NotDeclared theory.old (background world.old) (budget limits.now) written.entry.name
+        (IsDefinitionOf (background world.old).section written.entry.name.name)
+        (type_place (option_map (λ t. t.now.span) written.entry.ty) written.entry.body.now.span) written.entry.body.now.span) }
 {
     let entry = match definition_entry(alloc, theory, world, written, limits) {
         Ok(entry) => entry,
@@ -60,10 +75,15 @@ fn definition_entry(
     limits: &Limits,
 ) -> Result<Entry, Refusal>
     ensures head { IfOk result (λ entry. entry.head ≡ head.Definition) }
+    ensures free { OnOk result (IsFree theory.now (background world.now) written.entry.name.name) }
+    ensures declared { IfOk result (λ entry. IsOne (IsDefinitionOf (background world.now).section written.entry.name.name) (plains entry.decls.items)) }
+    ensures refused { IfErr result
+        (NotDeclared theory.now (background world.now) (budget limits.now) written.entry.name
+        (IsDefinitionOf (background world.now).section written.entry.name.name)
+        (type_place (option_map (λ t. t.now.span) written.entry.ty) written.entry.body.now.span) written.entry.body.now.span) }
 {
     let name = written.name;
-    not_reserved(&world.names, name.name, name.span)?;
-    not_taken(theory.env(), &world.hier, name.name, name.span)?;
+    is_free(theory, world, name.name, name.span)?;
     let made = term_of(alloc, theory, world, written, limits)?;
     match entry_of(alloc, &world.section, name, made) {
         Ok(entry) => Ok(entry),
@@ -78,7 +98,9 @@ fn term_of(
     world: &World,
     written: Written<'_>,
     limits: &Limits,
-) -> Result<Typed, Refusal> {
+) -> Result<Typed, Refusal>
+    ensures refused { IfErr result (λ r. IsOfElaboration r.what) }
+{
     let Ok(local) = Local::new(alloc, world.section.as_ref()) else {
         return Err(refused(written.body.span, What::NoMemory));
     };
@@ -108,15 +130,9 @@ fn entry_of(
     made: Typed,
 ) -> Result<Entry, AllocError>
     ensures head { IfOk result (λ entry. entry.head ≡ head.Definition) }
+    ensures declared { IfOk result (λ entry. IsOne (IsDefinitionOf (option_map opened section.now) name.name) (plains entry.decls.items)) }
 {
-    let Typed { term, ty } = made;
-    let (ty, body) = match section {
-        None => (ty, term),
-        Some(section) => (
-            closed_type(alloc, &section.context, ty)?,
-            closed_body(alloc, &section.context, term)?,
-        ),
-    };
+    let (ty, body) = closed(alloc, section, made)?;
     let mut decls = Vec::new(alloc);
     decls.push(Decl::Def {
         name: name.name,
@@ -127,6 +143,20 @@ fn entry_of(
         head: Head::Definition,
         decls,
     })
+}
+
+/// The type and the term, closed over the section's context.
+fn closed(alloc: Global, section: &Option<Section>, made: Typed) -> Result<(Term, Term), AllocError>
+    ensures { IfOk result (λ m. IsClosedIn (option_map opened section.now) (tree m.0) (tree m.1)) }
+{
+    let Typed { term, ty } = made;
+    match section {
+        None => Ok((ty, term)),
+        Some(section) => Ok((
+            closed_type(alloc, &section.context, ty)?,
+            closed_body(alloc, &section.context, term)?,
+        )),
+    }
 }
 
 /// Adds the declaration of a definition, and its name to the section.
@@ -142,6 +172,9 @@ fn define(
     ensures unchanged { OnErr result (theory.new ≡ theory.old) }
     ensures named { OnOk result (option_map opened section.new ≡ with_name written.entry.name.name (option_map opened section.old)) }
     ensures same { OnErr result (option_map opened section.new ≡ option_map opened section.old) }
+    ensures refused { IfErr result
+        (NotAddedAt theory.old (budget limits.now) (plains entry.now.decls.items) written.entry.name.span
+        (type_place (option_map (λ t. t.now.span) written.entry.ty) written.entry.body.now.span) written.entry.body.now.span) }
 {
     let name = written.name;
     let body = written.body.span;

@@ -1,9 +1,10 @@
 //! Queries: joins and instances.
-ghost use Rattle.std.specs.Prelude.{◌≡◌, ◌<◌, ◌⊎◌, Option, Some, length, IfOk, IfErr};
+ghost use Rattle.std.specs.Prelude.{◌≡◌, ◌<◌, Option, Some, length, IfOk, IfErr};
 ghost use Rattle.hb_term.specs.declared.scoped.Scoped.{Scoped};
 ghost use Rattle.hb_hier.specs.Hierarchy.{known_as};
 ghost use Rattle.hb_hier.specs.declared.known.Known.TheVariants.{Structure};
 ghost use Rattle.hb_plain.specs.Queries.{IsJoinOf, IsNoStructure};
+ghost use Rattle.hb_plain.specs.Refusing.{NoJoin, NotFound};
 ghost use Rattle.hb_world.specs.declared.done.Done.TheVariants as done;
 
 use hb_base::Limits;
@@ -36,7 +37,7 @@ pub fn structure_of(hier: &Hier, name: Word) -> Result<StructId, Refusal>
 /// is no structure is an `UnknownName`.
 pub fn join_of(hier: &Hier, a: Word, b: Word) -> Result<Option<StructId>, Refusal>
     ensures join { IfOk result (λ j. IsJoinOf hier.now a.name b.name j) }
-    ensures refused { IfErr result (λ r. IsNoStructure hier.now a r ⊎ IsNoStructure hier.now b r) }
+    ensures refused { IfErr result (NoJoin hier.now a b) }
 {
     let left = structure_of(hier, a)?;
     let right = structure_of(hier, b)?;
@@ -52,7 +53,8 @@ pub(crate) fn find(
     carrier: &Raw,
     limits: &Limits,
 ) -> Result<Done, Refusal>
-    ensures { IfOk result (λ d. (k : Option Scoped) × (d ≡ done.Find k)) }
+    ensures found { IfOk result (λ d. (k : Option Scoped) × (d ≡ done.Find k)) }
+    ensures refused { IfErr result (NotFound world.now.hier structure) }
 {
     let structure = structure_of(&world.hier, structure)?;
     let span = carrier.span;

@@ -1,4 +1,6 @@
 //! The sentences of notations.
+ghost use Rattle.hb_parse.specs.Numbers.{Extends};
+
 use crate::kinds::{Kind, kind_of, text_of};
 use crate::refused::SentencesRefused;
 use crate::runs::piece;
@@ -63,7 +65,9 @@ impl Header {
         bytes: &[u8],
         names: &mut Names,
         token: &Token,
-    ) -> Result<Option<Read>, SentencesRefused> {
+    ) -> Result<Option<Read>, SentencesRefused>
+        ensures kept { Extends names.old names.new }
+    {
         let at = token.span;
         let text = text_of(bytes, token);
         match self.next {
@@ -152,7 +156,9 @@ fn level(digits: &[u8]) -> Option<u8> {
 }
 
 /// The number of a text that stands at a place.
-fn number(names: &mut Names, text: &[u8], at: Span) -> Result<NameId, SentencesRefused> {
+fn number(names: &mut Names, text: &[u8], at: Span) -> Result<NameId, SentencesRefused>
+    ensures kept { Extends names.old names.new }
+{
     let Ok(text) = std::str::from_utf8(text) else {
         return Err(SentencesRefused::Syntax { at });
     };

@@ -1,5 +1,7 @@
 //! Goes through the tokens of a source once: takes the sentences of notations out, and writes each operator
 //! of the commands as a projection.
+ghost use Rattle.hb_parse.specs.Numbers.{Extends};
+
 use crate::chain::Sentence;
 use crate::header::{Header, Read};
 use crate::kinds::{Kind, kind_of, text_of};
@@ -53,7 +55,9 @@ pub(crate) fn mark(
     file: u16,
     tokens: &[Token],
     names: &mut Names,
-) -> Result<Marked, AllocError> {
+) -> Result<Marked, AllocError>
+    ensures kept { Extends names.old names.new }
+{
     let sizes = sizes(alloc, bytes, tokens)?;
     let mut marker = Marker {
         marked: Marked {
@@ -101,7 +105,9 @@ impl Marker {
         names: &mut Names,
         token: &Token,
         size: u32,
-    ) -> Result<(), SentencesRefused> {
+    ) -> Result<(), SentencesRefused>
+        ensures kept { Extends names.old names.new }
+    {
         match self.mode {
             Mode::Start => match announced(bytes, token) {
                 Some(side) => {

@@ -1,4 +1,6 @@
 //! The sentences of a source.
+ghost use Rattle.hb_parse.specs.Numbers.{Extends};
+
 use crate::commands::command;
 use crate::lexing::MOST_BYTES;
 use crate::marker::{Marked, mark};
@@ -25,7 +27,9 @@ pub fn sentences(
     file: u16,
     tokens: &[Token],
     names: &mut Names,
-) -> Result<Vec<Sentence>, SentencesRefused> {
+) -> Result<Vec<Sentence>, SentencesRefused>
+    ensures kept { Extends names.old names.new }
+{
     let Marked {
         plain,
         notations,
@@ -50,7 +54,9 @@ enum Fault {
 }
 
 /// The commands of the plain text; faults have their places in the source.
-fn plain_commands(alloc: Global, plain: &Plain, names: &mut Names) -> Result<Vec<Command>, Fault> {
+fn plain_commands(alloc: Global, plain: &Plain, names: &mut Names) -> Result<Vec<Command>, Fault>
+    ensures kept { Extends names.old names.new }
+{
     let text = plain.text();
     if text.len() > MOST_BYTES {
         return Err(Fault::Refused(SentencesRefused::NoMemory));

@@ -1,5 +1,5 @@
 -- A session that goes on by an entry, and back.
-use Rattle.std.proofs.Common.{◌≡◌, ℕ, ◌-◌, ◌+◌, List, [], ◌∷◌, ◌++◌, length, take, Option, refl, sym, ap, ◌∙◌, arith, append_assoc, append-nil, IfOk, Result, Ok, Err, length-append}
+use Rattle.std.proofs.Common.{◌≡◌, ◌⊎◌, ℕ, ◌-◌, ◌+◌, List, Some, None, subst, [], ◌∷◌, ◌++◌, length, take, Option, refl, sym, ap, ◌∙◌, arith, append_assoc, append-nil, IfOk, Result, Ok, Err, length-append}
 use Rattle.std.proofs.Math.Seq.{take-append_seam}
 use Rattle.std.proofs.lemmas.List.{length-map}
 use Rattle.hb_calculus.specs.Declarations.{Decl}
@@ -14,13 +14,21 @@ use Rattle.hb_raw.specs.Preterm.{Preterm}
 use Rattle.hb_raw.specs.Sentence.{Act, axiom_of, definition, mixin, factory, builders, section_end, structure, instance, join, find, require, howto, about}
 use Rattle.hb_term.specs.declared.scoped.Scoped.{Scoped}
 use Rattle.hb_world.specs.Taking.{Extends, HasGrown, HasHead}
-use Rattle.hb_world.specs.Worlds.{Background}
+use Rattle.hb_world.specs.Worlds.{Background, Opened}
 use Rattle.hb_world.specs.declared.done.Done.{Done}
 use Rattle.hb_world.specs.declared.done.Done.TheVariants as done
 use Rattle.hb_session.specs.Entries.{decls_of}
-use Rattle.hb_session.specs.Growing.{Grows, GrowsBy, IsRequire}
+use Rattle.hb_session.specs.Growing.{Grows, GrowsBy, IsRequire, Leaves, LeavesBy}
 use Rattle.hb_session.specs.State.{State}
-use Rattle.hb_session.specs.Reporting.{IsEventOf, IsAnswer, IsHowto, TellsJoin, TellsAbout}
+use Rattle.hb_session.specs.Reporting.{IsEventOf, IsGiven, IsHowto, TellsHowto, TellsJoin, TellsAbout, local_mixins}
+use Rattle.hb_env.specs.Naming.{name_in}
+use Rattle.hb_env.specs.declared.named.Named.TheVariants.{Const}
+use Rattle.hb_base.specs.declared.name_id.NameId.{NameId}
+use Rattle.hb_sets.specs.Set.{Set, union}
+use Rattle.hb_hier.specs.Hierarchy.{known_as, required}
+use Rattle.hb_hier.specs.declared.known.Known.TheVariants.{Factory, Structure}
+use Rattle.hb_order.specs.declared.ids.StructId.{StructId}
+use Rattle.hb_tree.specs.declared.leaves.ConstId.{ConstId}
 use Rattle.hb_session.specs.Taking.{HasFamily, AreLeft, GoesOn, Takes}
 use Rattle.hb_events.specs.declared.event.Event.{Event}
 use Rattle.hb_events.specs.declared.event.Event.TheVariants as event
@@ -80,82 +88,96 @@ left_of (require n) e f h = absurd f
 left_of (howto s k) e f h = absurd f
 left_of (about n) e f h = absurd f
 
--- such a command asks nothing
-no_answer : (h : Hierarchy) (c : Act) (v : Event) → HasFamily c → IsAnswer h c v
-no_answer h (axiom_of n ty) v f = tt
-no_answer h (definition n bs ty b) v f = tt
-no_answer h (mixin n c is fs) v f = tt
-no_answer h (factory n c is fs) v f = tt
-no_answer h (builders c w i) v f = tt
-no_answer h section_end v f = tt
-no_answer h (structure n c is) v f = tt
-no_answer h (instance n bs g c ws t) v f = tt
-no_answer h (join a b) v f = absurd f
-no_answer h (find s c) v f = absurd f
-no_answer h (require n) v f = absurd f
-no_answer h (howto s k) v f = absurd f
-no_answer h (about n) v f = absurd f
-
-pub takes_entry : (S S' : State) (c : Act) (v : Event) (e : Entry) → HasFamily c → HasHead c (done.Entry e) → IsEventOf c v
-    → S'.entries ≡ S.entries ++ (e ∷ []) → HasGrown S.env S'.env (done.Entry e) → Extends S.back.names S'.back.names → Grows c S.env S.back S'.back → Takes S c v S'
-takes_entry S S' c v e family head reported entries grown names grows = record {
+pub takes_entry : (S S' : State) (c : Act) (v : Event) (e : Entry) → HasFamily c → HasHead c (done.Entry e) → IsEventOf S.env S.back c v
+    → S'.entries ≡ S.entries ++ (e ∷ []) → HasGrown S.env S'.env (done.Entry e) → Extends S.back.names S'.back.names → Grows c S.env S.back S'.back
+    → Leaves c S.back.hier S.back.section S'.back.section → Takes S c v S'
+takes_entry S S' c v e family head reported entries grown names grows leaves = record {
   left = e ∷ [];
   are_left = left_of c e family head;
   goes_on = goes_on S S' e entries grown names;
   grows = grows;
+  leaves = leaves;
   reported = reported;
-  answer = no_answer S.back.hier c v family;
 }
 
 -- a query changes nothing
 same_state : (S : State) → GoesOn S S []
 same_state S = record { entries = sym (append-nil S.entries); declared = sym (append-nil S.env); names = ([], sym (append-nil S.back.names)) }
 
-pub howto_taken : (S : State) (s k : Word) (r : Result Event Refusal) → IfOk r (IsHowto s k) → IfOk r (λ e. Takes S (howto s k) e S)
-howto_taken S s k (Ok e) is = record { left = []; are_left = refl; goes_on = same_state S; grows = refl; reported = is; answer = tt }
+pub howto_taken : (S : State) (s k : Word) (r : Result Event Refusal) → IfOk r (TellsHowto S.env S.back.hier s k) → IfOk r (λ e. Takes S (howto s k) e S)
+howto_taken S s k (Ok e) is = record { left = []; are_left = refl; goes_on = same_state S; grows = refl; leaves = refl; reported = is }
 howto_taken S s k (Err q) is = is
 
 pub join_taken : (S : State) (a b : Word) (r : Result Event Refusal) → IfOk r (TellsJoin S.back.hier a b) → IfOk r (λ e. Takes S (join a b) e S)
-join_taken S a b (Ok e) (j, is, h) = record { left = []; are_left = refl; goes_on = same_state S; grows = refl; reported = (j, is); answer = (j, is, h) }
+join_taken S a b (Ok e) is = record { left = []; are_left = refl; goes_on = same_state S; grows = refl; leaves = refl; reported = is }
 join_taken S a b (Err q) is = is
 
 pub about_taken : (S : State) (n : Word) (r : Result Event Refusal) → IfOk r (TellsAbout S.back.hier n) → IfOk r (λ e. Takes S (about n) e S)
-about_taken S n (Ok e) (known, is, h) = record { left = []; are_left = refl; goes_on = same_state S; grows = refl; reported = (known, is); answer = (known, is, h) }
+about_taken S n (Ok e) is = record { left = []; are_left = refl; goes_on = same_state S; grows = refl; leaves = refl; reported = is }
 about_taken S n (Err q) is = is
 
 -- the end of a required file
 pub takes_require : (S S' : State) (n : Word) (e : Entry) → e.head ≡ heads.Require n.name → plains e.decls.items ≡ []
-    → S'.entries ≡ S.entries ++ (e ∷ []) → S'.env ≡ S.env → S'.back.names ≡ S.back.names → S'.back.hier ≡ S.back.hier → Takes S (require n) (event.Require n.name) S'
-takes_require S S' n e head none entries env names hier = record {
+    → S'.entries ≡ S.entries ++ (e ∷ []) → S'.env ≡ S.env → S'.back.names ≡ S.back.names → S'.back.hier ≡ S.back.hier → S'.back.section ≡ S.back.section
+    → Takes S (require n) (event.Require n.name) S'
+takes_require S S' n e head none entries env names hier section = record {
   left = e ∷ [];
   are_left = (e, refl, head);
   goes_on = goes_on S S' e entries (env ∙ sym (ap (λ x. S.env ++ x) none ∙ append-nil S.env)) ([], names ∙ sym (append-nil S.back.names));
   grows = hier;
+  leaves = section;
   reported = refl;
-  answer = tt;
 }
 
--- the entry of a required file changes nothing in the hierarchy
-pub required_grows : (h : Head) (E : List Decl) (old new : Background) → IsRequire h → new.hier ≡ old.hier → GrowsBy h E old new
-required_grows heads.Core E old new is same = absurd is
-required_grows heads.Axiom E old new is same = absurd is
-required_grows heads.Definition E old new is same = absurd is
-required_grows (heads.Mixin v) E old new is same = absurd is
-required_grows (heads.Factory v) E old new is same = absurd is
-required_grows (heads.Builders f c v) E old new is same = absurd is
-required_grows heads.End E old new is same = absurd is
-required_grows (heads.Structure n v) E old new is same = absurd is
-required_grows (heads.Instance f c v) E old new is same = absurd is
-required_grows (heads.Require n) E old new is same = same
+-- the entry of a required file changes nothing in the hierarchy, nor in a section
+pub required_grows : (h : Head) (ds E : List Decl) (old new : Background) → IsRequire h → new.hier ≡ old.hier → GrowsBy h ds E old new
+required_grows heads.Core ds E old new is same = absurd is
+required_grows heads.Axiom ds E old new is same = absurd is
+required_grows heads.Definition ds E old new is same = absurd is
+required_grows (heads.Mixin v) ds E old new is same = absurd is
+required_grows (heads.Factory v) ds E old new is same = absurd is
+required_grows (heads.Builders f c v) ds E old new is same = absurd is
+required_grows heads.End ds E old new is same = absurd is
+required_grows (heads.Structure n v) ds E old new is same = absurd is
+required_grows (heads.Instance f c v) ds E old new is same = absurd is
+required_grows (heads.Require n) ds E old new is same = same
+
+pub required_leaves : (h : Head) (ds : List Decl) (H : Hierarchy) (o o' : Option Opened) → IsRequire h → o' ≡ o → LeavesBy h ds H o o'
+required_leaves heads.Core ds H o o' is same = absurd is
+required_leaves heads.Axiom ds H o o' is same = absurd is
+required_leaves heads.Definition ds H o o' is same = absurd is
+required_leaves (heads.Mixin v) ds H o o' is same = absurd is
+required_leaves (heads.Factory v) ds H o o' is same = absurd is
+required_leaves (heads.Builders f c v) ds H o o' is same = absurd is
+required_leaves heads.End ds H o o' is same = absurd is
+required_leaves (heads.Structure n v) ds H o o' is same = absurd is
+required_leaves (heads.Instance f c v) ds H o o' is same = absurd is
+required_leaves (heads.Require n) ds H o o' is same = same
 
 -- the key of a type
 pub find_taken : (S S' : State) (s : Word) (t : Preterm) (k : Option Scoped) → S'.entries ≡ S.entries → HasGrown S.env S'.env (done.Find k)
-    → Extends S.back.names S'.back.names → Grows (find s t) S.env S.back S'.back → Takes S (find s t) (event.Find s.name k) S'
-find_taken S S' s t k entries grown names grows = record {
+    → Extends S.back.names S'.back.names → Grows (find s t) S.env S.back S'.back
+    → Leaves (find s t) S.back.hier S.back.section S'.back.section → Takes S (find s t) (event.Find s.name k) S'
+find_taken S S' s t k entries grown names grows leaves = record {
   left = [];
   are_left = refl;
   goes_on = record { entries = entries ∙ sym (append-nil S.entries); declared = grown ∙ sym (append-nil S.env); names = names };
   grows = grows;
+  leaves = leaves;
   reported = (k, refl);
-  answer = tt;
 }
+
+-- the ways to a structure, from a constant
+pub tells_ways : (E : List Decl) (h : Hierarchy) (s k : Word) (i : StructId) (c : ConstId) (r : Result Event Refusal)
+    → known_as h s.name ≡ Some (Structure i) → name_in E (Const c) ≡ Some k.name.0
+    → IfOk r (λ e. IsGiven h i c s k e ⊎ IsHowto h i c s k e) → IfOk r (TellsHowto E h s k)
+tells_ways E h s k i c (Ok e) named constant is = record { wanted = i; wanted_is = named; carrier = c; carrier_is = constant; ways = is }
+tells_ways E h s k i c (Err q) named constant is = is
+
+-- the mixins of a section's local carrier
+pub without_factory : (h : Hierarchy) (o : Opened) (n : Option NameId) (x : Set) → n ≡ None → x ≡ o.provided → x ≡ local_mixins h o n
+without_factory h o n x none is = subst (λ m. x ≡ local_mixins h o m) (sym none) is
+
+pub with_factory : (h : Hierarchy) (o : Opened) (n : Option NameId) (m : NameId) (x : Set)
+    → n ≡ Some m → x ≡ union (required h (Factory o.factory)) o.provided → x ≡ local_mixins h o n
+with_factory h o n m x some is = subst (λ k. x ≡ local_mixins h o k) (sym some) is

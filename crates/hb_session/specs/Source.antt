@@ -1,12 +1,15 @@
 -- The form of a source: its tokens and its sentences, or why it has none.
-use Rattle.std.specs.Prelude.{◌≡◌, ℕ, ◌⊎◌, List}
+use Rattle.std.specs.Prelude.{◌≡◌, ℕ, ◌⊎◌, Bool, IsTrue, List, length, drop, min, nat_eq, ◌||◌, codes}
+use Rattle.std.specs.List.{starts_with}
 use Rattle.hb_base.specs.declared.span.Span.{Span}
+use Rattle.hb_env.specs.declared.entry.Entry.{Entry}
 use Rattle.hb_env.specs.declared.refusal.What.{What}
 use Rattle.hb_env.specs.declared.refusal.What.TheVariants.{Utf8, Lex, Syntax, TooDeep, TooMany, NoMemory}
 use Rattle.hb_lex.specs.declared.token.Token.{Token}
 use Rattle.hb_lex.specs.declared.error.LexRefused.TheVariants as lex
 use Rattle.hb_lex.specs.Text.{HasTokens, rules}
 use Rattle.hb_lex.specs.Places as places
+use Rattle.hb_libfile.specs.Format.{library_bytes}
 use Rattle.hb_parse.specs.Answers as grammar
 use Rattle.hb_parse.specs.Answers.{ReadsAs, AddsRead}
 use Rattle.hb_parse.specs.declared.error.ParseRefused.{ParseRefused}
@@ -47,3 +50,31 @@ FormCause i bytes N y TooDeep = NoSentences i bytes N (parse.TooDeep y)
 FormCause i bytes N y (TooMany c) = NoSentences i bytes N (parse.TooMany c y)
 FormCause i bytes N y NoMemory = Unit {0}
 FormCause i bytes N y _ = ⊥
+
+-- the first word of the sentence of a notation stands at the byte
+abbrev pub begins_notation : List ℕ → ℕ → Bool
+begins_notation bytes n =
+    starts_with nat_eq (drop (min n (length bytes)) bytes) (codes "Infix")
+    || starts_with nat_eq (drop (min n (length bytes)) bytes) (codes "Prefix")
+
+-- so is a source refused without notations that may have some: where it has no tokens without operators, or at the
+-- first word of a notation
+abbrev pub StopsAtNotation : List ℕ → Span → What → Type 0
+StopsAtNotation bytes y Lex = Unit {0}
+StopsAtNotation bytes y Syntax = IsTrue (begins_notation bytes y.from)
+StopsAtNotation bytes y _ = ⊥
+
+pub record MayHaveNotations (i : ℕ) (bytes : List ℕ) : Type 0 where
+  pub names : List (List ℕ)
+  pub place : Span
+  pub what : What
+  pub cause : FormCause i bytes names place what
+  pub stops : StopsAtNotation bytes place what
+
+-- the source has these sentences, unless it has notations: of those nothing is said
+abbrev pub IsSourceOf : ℕ → List ℕ → List (List ℕ) → List Sentence → Type 0
+IsSourceOf i bytes N cs = IsSource i bytes N cs ⊎ MayHaveNotations i bytes
+
+-- the bytes are those of a library of either version, with these names and entries
+abbrev pub IsLibrary : List ℕ → List (List ℕ) → List Entry → Type 0
+IsLibrary bytes N es = (second : Bool) × (bytes ≡ library_bytes second N es)

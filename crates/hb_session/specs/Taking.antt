@@ -5,9 +5,9 @@ use Rattle.hb_raw.specs.Sentence.{Act, join, find, require, howto, about}
 use Rattle.hb_world.specs.Taking.{Extends, IsHeadOf}
 use Rattle.hb_world.specs.Worlds.{IsAsBefore}
 use Rattle.hb_session.specs.Entries.{decls_of}
-use Rattle.hb_session.specs.Growing.{Grows}
+use Rattle.hb_session.specs.Growing.{Grows, Leaves}
 use Rattle.hb_session.specs.State.{State}
-use Rattle.hb_session.specs.Reporting.{IsEventOf, IsAnswer}
+use Rattle.hb_session.specs.Reporting.{IsEventOf}
 use Rattle.hb_events.specs.declared.event.Event.{Event}
 
 -- a command that leaves an entry by its family
@@ -39,20 +39,11 @@ pub record Takes (S : State) (c : Act) (event : Event) (S' : State) : Type 0 whe
   pub are_left : AreLeft c left
   pub goes_on : GoesOn S S' left
   pub grows : Grows c S.env S.back S'.back
-  pub reported : IsEventOf c event
-  pub answer : IsAnswer S.back.hier c event
+  pub leaves : Leaves c S.back.hier S.back.section S'.back.section
+  pub reported : IsEventOf S.env S.back c event
 
 -- nothing has changed but the names, which may be more
 pub record OnlyNames (S S' : State) : Type 0 where
   pub env : S'.env ≡ S.env
   pub back : IsAsBefore S.back S'.back
-  pub entries : S'.entries ≡ S.entries
-
--- nothing has changed but the names, of which nothing is said
-pub record KeepsAll (S S' : State) : Type 0 where
-  pub env : S'.env ≡ S.env
-  pub hier : S'.back.hier ≡ S.back.hier
-  pub tables : S'.back.tables ≡ S.back.tables
-  pub section : S'.back.section ≡ S.back.section
-  pub made : S'.back.made ≡ S.back.made
   pub entries : S'.entries ≡ S.entries

@@ -3,7 +3,8 @@ ghost use Rattle.std.specs.Prelude.{◌≡◌, IfOk, OnOk, OnErr};
 ghost use Rattle.hb_raw.specs.Views.{act};
 ghost use Rattle.hb_world.specs.Taking.{Extends, HasAdded, HasGrown, HasHead};
 ghost use Rattle.hb_world.specs.Worlds.{background, IsAsBefore};
-ghost use Rattle.hb_session.specs.Growing.{Grows, GrowsBy};
+ghost use Rattle.hb_env.specs.Plain.{plains};
+ghost use Rattle.hb_session.specs.Growing.{Grows, GrowsBy, Leaves, LeavesBy};
 ghost use Rattle.hb_session.specs.Taking.{HasFamily};
 
 use crate::refusing::at;
@@ -30,6 +31,8 @@ pub(crate) fn apply(
     ensures head { IfOk result (λ done. HasHead (act taken.now.kind) done) }
     ensures grows { OnOk result (Grows (act taken.now.kind) theory.old (background world.old)
         (background world.new)) }
+    ensures leaves { OnOk result (Leaves (act taken.now.kind) world.old.hier
+        (background world.old).section (background world.new).section) }
 {
     match &taken.kind {
         CommandKind::Axiom { .. }
@@ -66,8 +69,10 @@ pub(crate) fn replay(
     ensures as_before { OnErr result (IsAsBefore (background world.old) (background world.new)) }
     ensures grown { OnOk result (HasAdded theory.old theory.new entry.now) }
     ensures names { Extends world.old.names world.new.names }
-    ensures grows { OnOk result (GrowsBy entry.now.head theory.old (background world.old)
-        (background world.new)) }
+    ensures grows { OnOk result (GrowsBy entry.now.head (plains entry.now.decls.items) theory.old
+        (background world.old) (background world.new)) }
+    ensures leaves { OnOk result (LeavesBy entry.now.head (plains entry.now.decls.items)
+        world.old.hier (background world.old).section (background world.new).section) }
 {
     match &entry.head {
         Head::Core | Head::Axiom | Head::Definition => {

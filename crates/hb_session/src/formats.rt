@@ -1,7 +1,8 @@
 //! Reading libraries, core texts and generated commands with a session's names.
-ghost use Rattle.std.specs.Prelude.{◌≡◌, ◌≤◌, ◌^◌, length};
+ghost use Rattle.std.specs.Prelude.{◌≡◌, ◌≤◌, ◌^◌, IfOk, [], length, map};
 ghost use Rattle.hb_session.specs.State.{state};
-ghost use Rattle.hb_session.specs.Taking.{KeepsAll};
+ghost use Rattle.hb_session.specs.Source.{IsLibrary};
+ghost use Rattle.hb_session.specs.Taking.{OnlyNames};
 
 use crate::read::no_text;
 use crate::refusing::{at, at_byte};
@@ -22,7 +23,9 @@ impl Session {
     /// The entries of a library of at most 512 MiB, with their places. The session is empty before.
     pub fn library(&mut self, file: u16, bytes: &[u8]) -> Result<Vec<(Entry, Places)>, Refusal>
         requires fits { length bytes.now ≤ 2 ^ 29 }
-        ensures keeps { KeepsAll (state self.old) (state self.new) }
+        ensures read { IfOk result (λ es. (state self.old).back.names ≡ []
+            → IsLibrary bytes.now (state self.new).back.names (map (λ e. e.0) es.items)) }
+        ensures only_names { OnlyNames (state self.old) (state self.new) }
         ensures lines { self.new.files.lines ≡ self.old.files.lines }
     {
         match decode(self.alloc, bytes, file, &mut self.world.names) {
@@ -45,7 +48,7 @@ impl Session {
     /// The declarations of a core text of at most 64 MiB, each with the place of its name.
     pub fn core_text(&mut self, file: u16, bytes: &[u8]) -> Result<Vec<(Decl, Span)>, Refusal>
         requires fits { length bytes.now ≤ 2 ^ 26 }
-        ensures keeps { KeepsAll (state self.old) (state self.new) }
+        ensures only_names { OnlyNames (state self.old) (state self.new) }
         ensures lines { self.new.files.lines ≡ self.old.files.lines }
     {
         match read_core(self.alloc, bytes, file, &mut self.world.names) {
@@ -59,7 +62,7 @@ impl Session {
     /// goes on with it, unless the text before it is refused, or a later byte is in no token.
     fn core_front(&mut self, file: u16, bytes: &[u8], byte: u32) -> Refusal
         requires fits { length bytes.now ≤ 2 ^ 26 }
-        ensures keeps { KeepsAll (state self.old) (state self.new) }
+        ensures only_names { OnlyNames (state self.old) (state self.new) }
         ensures lines { self.new.files.lines ≡ self.old.files.lines }
     {
         let operator = match first_operator(self.alloc, file, bytes) {
@@ -81,7 +84,7 @@ impl Session {
 
     /// The commands of the sample of the number and the size.
     pub fn sample(&mut self, number: u64, size: u16) -> Result<Vec<Command>, Refusal>
-        ensures keeps { KeepsAll (state self.old) (state self.new) }
+        ensures only_names { OnlyNames (state self.old) (state self.new) }
         ensures lines { self.new.files.lines ≡ self.old.files.lines }
     {
         match sample(self.alloc, &mut self.world.names, number, size) {

@@ -1,15 +1,19 @@
 //! Queries that change nothing.
-ghost use Rattle.std.specs.Prelude.{◌≡◌, IfOk};
+ghost use Rattle.std.specs.Prelude.{◌≡◌, ◌<◌, ◌⊎◌, IfOk, Some, length};
+ghost use Rattle.hb_env.specs.Naming.{name_in};
+ghost use Rattle.hb_env.specs.declared.named.Named.TheVariants as named;
 ghost use Rattle.hb_events.specs.declared.event.Event.{Event};
-ghost use Rattle.hb_session.specs.Reporting.{IsHowto, TellsAbout, TellsJoin};
+ghost use Rattle.hb_session.specs.Reporting.{IsGiven, IsHowto, TellsAbout, TellsHowto, TellsJoin};
 ghost use Rattle.hb_world.specs.Worlds.{background};
 
 use crate::refusing::at;
 use hb_base::{Limits, NameId, Span};
 use hb_env::{Env, Named, Refusal, What};
 use hb_events::Event;
+use hb_hier::Hier;
 use hb_howto::{HowtoRefused, howto as lists_for};
 use hb_kernel::Theory;
+use hb_order::StructId;
 use hb_plain::{join_of, structure_of};
 use hb_raw::Word;
 use hb_reduce::{ReduceRefused, whnf};
@@ -28,21 +32,40 @@ pub(crate) fn howto(
     carrier: Word,
     limits: &Limits,
 ) -> Result<Event, Refusal>
-    ensures { IfOk result (IsHowto structure carrier) }
+    ensures { IfOk result (TellsHowto theory.now (background world.now).hier structure carrier) }
 {
-    let s = structure_of(&world.hier, structure)?;
-    let constant = carrier_of(alloc, theory.env(), carrier, limits)?;
-    let given = world.hier.given(constant);
-    if s.0 >= world.hier.structures() {
-        return Err(at(structure.span, What::NoMemory));
-    }
-    if world.hier.mix(s).subset(given) {
+    let s = match structure_of(&world.hier, structure) {
+        Ok(s) => s,
+        Err(refusal) => return Err(refusal),
+    };
+    let constant = match carrier_of(alloc, theory.env(), carrier, limits) {
+        Ok(constant) => constant,
+        Err(refusal) => return Err(refusal),
+    };
+    ways(alloc, &world.hier, s, constant, structure, carrier)
+}
+
+/// What gives the carrier the structure.
+fn ways(
+    alloc: Global,
+    hier: &Hier,
+    s: StructId,
+    constant: ConstId,
+    structure: Word,
+    carrier: Word,
+) -> Result<Event, Refusal>
+    requires { s.0 < length hier.now.structures }
+    ensures { IfOk result (λ e. IsGiven hier.now s constant structure carrier e
+        ⊎ IsHowto hier.now s constant structure carrier e) }
+{
+    let given = hier.given(constant);
+    if hier.mix(s).subset(given) {
         return Ok(Event::Given {
             structure: structure.name,
             carrier: carrier.name,
         });
     }
-    match lists_for(alloc, &world.hier, s, given) {
+    match lists_for(alloc, hier, s, given) {
         Ok(lists) => Ok(Event::Howto {
             structure: structure.name,
             carrier: carrier.name,
@@ -68,7 +91,9 @@ pub(crate) fn join(world: &World, a: Word, b: Word) -> Result<Event, Refusal>
 }
 
 /// The constant of a name, whose type's weak head form has to be `Prop` or the sort of level 0.
-fn carrier_of(alloc: Global, env: &Env, name: Word, limits: &Limits) -> Result<ConstId, Refusal> {
+fn carrier_of(alloc: Global, env: &Env, name: Word, limits: &Limits) -> Result<ConstId, Refusal>
+    ensures { IfOk result (λ k. name_in env.now (named.Const k) ≡ Some name.name.0) }
+{
     let Some(Named::Const(constant)) = env.lookup(name.name) else {
         return Err(not_carrier(name));
     };

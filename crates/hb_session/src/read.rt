@@ -7,7 +7,7 @@ ghost use Rattle.hb_parse.specs.Answers as grammar;
 ghost use Rattle.hb_raw.specs.Views.{sentences};
 ghost use Rattle.hb_session.specs.Source.{FormCause, IsSource, NamesAreRead};
 ghost use Rattle.hb_session.specs.State.{state};
-ghost use Rattle.hb_session.specs.Taking.{KeepsAll, OnlyNames};
+ghost use Rattle.hb_session.specs.Taking.{OnlyNames};
 
 use crate::refusing::{at, at_byte};
 use crate::session::Session;
@@ -48,7 +48,7 @@ impl Session {
     /// are numbered. Refused as `hb_sentences` refuses tokens and sentences; a clash of notations stands at
     /// the quoted operator.
     pub fn sentences(&mut self, file: u16, bytes: &[u8]) -> Result<Vec<Sentence>, Refusal>
-        ensures keeps { KeepsAll (state self.old) (state self.new) }
+        ensures only_names { OnlyNames (state self.old) (state self.new) }
         ensures lines { self.new.files.lines ≡ self.old.files.lines }
     {
         let tokens = match hb_sentences::tokens(self.alloc, bytes, file, LONGEST) {
@@ -64,7 +64,7 @@ impl Session {
 
     /// The commands of a source of at most 1 MiB with notations, as `sentences` reads it.
     pub fn noted_commands(&mut self, file: u16, bytes: &[u8]) -> Result<Vec<Command>, Refusal>
-        ensures keeps { KeepsAll (state self.old) (state self.new) }
+        ensures only_names { OnlyNames (state self.old) (state self.new) }
         ensures lines { self.new.files.lines ≡ self.old.files.lines }
     {
         match self.sentences(file, bytes) {

@@ -1,7 +1,7 @@
 //! Taking entries of libraries and core texts.
 ghost use Rattle.std.specs.Prelude.{◌≡◌, ◌∷◌, [], IsTrue, OnOk, OnErr};
 ghost use Rattle.hb_env.specs.Plain.{plains};
-ghost use Rattle.hb_session.specs.Growing.{GrowsBy, IsRequire};
+ghost use Rattle.hb_session.specs.Growing.{GrowsBy, IsRequire, LeavesBy};
 ghost use Rattle.hb_session.specs.State.{state};
 ghost use Rattle.hb_session.specs.Taking.{GoesOn, OnlyNames};
 
@@ -16,8 +16,10 @@ impl Session {
     /// more, and nothing else changes.
     pub fn replay(&mut self, entry: Entry, places: &Places, limits: &Limits) -> Result<(), Refusal>
         ensures taken { OnOk result (GoesOn (state self.old) (state self.new) (entry ∷ [])) }
-        ensures grows { OnOk result (GrowsBy entry.head (state self.old).env (state self.old).back
-            (state self.new).back) }
+        ensures grows { OnOk result (GrowsBy entry.head (plains entry.decls.items)
+            (state self.old).env (state self.old).back (state self.new).back) }
+        ensures leaves { OnOk result (LeavesBy entry.head (plains entry.decls.items)
+            (state self.old).back.hier (state self.old).back.section (state self.new).back.section) }
         ensures refused { OnErr result (OnlyNames (state self.old) (state self.new)) }
         ensures lines { self.new.files.lines ≡ self.old.files.lines }
     {
@@ -29,12 +31,14 @@ impl Session {
     }
 
     /// Takes the entry of a required file.
-    #[tactic(auto, using(crate::proofs::GoesLemmas::required_grows))]
+    #[tactic(auto, using(crate::proofs::GoesLemmas::required_grows, crate::proofs::GoesLemmas::required_leaves))]
     fn replay_require(&mut self, entry: Entry, places: &Places) -> Result<(), Refusal>
         requires required { IsRequire entry.head }
         ensures taken { OnOk result (GoesOn (state self.old) (state self.new) (entry ∷ [])) }
-        ensures grows { OnOk result (GrowsBy entry.head (state self.old).env (state self.old).back
-            (state self.new).back) }
+        ensures grows { OnOk result (GrowsBy entry.head (plains entry.decls.items)
+            (state self.old).env (state self.old).back (state self.new).back) }
+        ensures leaves { OnOk result (LeavesBy entry.head (plains entry.decls.items)
+            (state self.old).back.hier (state self.old).back.section (state self.new).back.section) }
         ensures refused { OnErr result (OnlyNames (state self.old) (state self.new)) }
         ensures lines { self.new.files.lines ≡ self.old.files.lines }
     {
@@ -58,8 +62,10 @@ impl Session {
         limits: &Limits,
     ) -> Result<(), Refusal>
         ensures taken { OnOk result (GoesOn (state self.old) (state self.new) (entry ∷ [])) }
-        ensures grows { OnOk result (GrowsBy entry.head (state self.old).env (state self.old).back
-            (state self.new).back) }
+        ensures grows { OnOk result (GrowsBy entry.head (plains entry.decls.items)
+            (state self.old).env (state self.old).back (state self.new).back) }
+        ensures leaves { OnOk result (LeavesBy entry.head (plains entry.decls.items)
+            (state self.old).back.hier (state self.old).back.section (state self.new).back.section) }
         ensures refused { OnErr result (OnlyNames (state self.old) (state self.new)) }
         ensures lines { self.new.files.lines ≡ self.old.files.lines }
     {

@@ -3,8 +3,12 @@ ghost use Rattle.std.specs.Prelude.{◌≡◌, IfOk, OnErr, is_some, string_byte
 ghost use Rattle.hb_raw.specs.Preterm.{Preterm};
 ghost use Rattle.hb_raw.specs.Sentence.{find, require};
 ghost use Rattle.hb_raw.specs.Views.{act};
-ghost use Rattle.hb_session.specs.Reporting.{IsEventOf, source_name};
+ghost use Rattle.hb_hier.specs.Hierarchy.{name_of};
+ghost use Rattle.hb_hier.specs.declared.known.Known.TheVariants as known;
+ghost use Rattle.hb_events.specs.declared.event.Event.TheVariants as event;
+ghost use Rattle.hb_session.specs.Reporting.{IsEventOf, TellsEnd, had_in, local_mixins, source_name};
 ghost use Rattle.hb_session.specs.State.{state};
+ghost use Rattle.hb_world.specs.Worlds.{opened};
 ghost use Rattle.hb_session.specs.Taking.{HasFamily, OnlyNames, Takes};
 
 use crate::families::apply;
@@ -80,7 +84,7 @@ impl Session {
     /// Takes a command that leaves an entry, which is kept; the room for it is made before.
     fn keep(&mut self, taken: &Command, limits: &Limits, event: Event) -> Result<Event, Refusal>
         requires family { HasFamily (act taken.now.kind) }
-        requires event { IsEventOf (act taken.now.kind) event }
+        requires event { IsEventOf (state self.old).env (state self.old).back (act taken.now.kind) event }
         ensures taken { IfOk result (λ e. Takes (state self.old) (act taken.now.kind) e (state self.new)) }
         ensures refused { OnErr result (OnlyNames (state self.old) (state self.new)) }
         ensures lines { self.new.files.lines ≡ self.old.files.lines }
@@ -154,7 +158,9 @@ impl Session {
     }
 
     /// The factory of the open section; without one the first factory.
-    fn open_factory(&self) -> FactoryId {
+    fn open_factory(&self) -> FactoryId
+        ensures { TellsEnd (state self.now).back.section (event.End result) }
+    {
         match &self.world.section {
             Some(section) => section.factory,
             None => FactoryId(0),
@@ -162,7 +168,9 @@ impl Session {
     }
 
     /// What carriers have before an instance: in a section its local carrier.
-    fn had(&self) -> Had {
+    fn had(&self) -> Had
+        ensures { result ≡ had_in (state self.now).env (state self.now).back.hier (state self.now).back.section }
+    {
         match &self.world.section {
             Some(section) => Had::Local(local_set(&self.world.hier, section)),
             None => Had::Declared(self.theory.env().len()),
@@ -171,7 +179,10 @@ impl Session {
 }
 
 /// The mixins of a section's local carrier.
-fn local_set(hier: &Hier, section: &Section) -> MixSet {
+fn local_set(hier: &Hier, section: &Section) -> MixSet
+    ensures { result ≡ local_mixins hier.now (opened section.now)
+        (name_of hier.now (known.Factory section.now.factory)) }
+{
     let known = Known::Factory(section.factory);
     match hier.name(known) {
         Some(_) => hier.req(known).union(&section.provided),

@@ -1,2 +1,4 @@
 pub mod SinceLemmas
 mod AddLemmas
+mod CountLemmas
+mod NameLemmas

@@ -1,5 +1,5 @@
 -- Why a name can't be declared.
-use Rattle.std.specs.Prelude.{◌≡◌, ℕ, ◌⊎◌, Bool, true, List, Option, None, Some, slice_get}
+use Rattle.std.specs.Prelude.{◌≡◌, ℕ, ◌⊎◌, Bool, true, List, [], ◌∷◌, Option, None, Some, slice_get}
 use Rattle.hb_base.specs.declared.name_id.NameId.{NameId}
 use Rattle.hb_base.specs.declared.span.Span.{Span}
 use Rattle.hb_calculus.specs.Declarations.{Decl, names, IsIn}
@@ -35,3 +35,13 @@ pub record IsRedeclared (E : List Decl) (h : Hierarchy) (n : NameId) (s : Span) 
   pub place : r.span ≡ s
   pub what : r.what ≡ Redeclared n
   pub taken : IsTaken E h n
+
+-- n stands at two places of the list
+abbrev pub IsTwice : ℕ → List ℕ → Type 0
+IsTwice n [] = ⊥
+IsTwice n (m ∷ ms) = ((n ≡ m) × IsIn n ms) ⊎ IsTwice n ms
+
+-- the name is one of the declarations', and is taken, or among those made before, or stands twice among theirs
+pub record IsUnfit (E : List Decl) (h : Hierarchy) (made : List ℕ) (ds : List Decl) (n : NameId) : Type 0 where
+  pub theirs : IsIn n.0 (names ds)
+  pub cause : IsTaken E h n ⊎ IsIn n.0 made ⊎ IsTwice n.0 (names ds)

@@ -1,9 +1,9 @@
 //! Names that a command declares.
-ghost use Rattle.std.specs.Prelude.{◌≡◌, ◌↔◌, ◌≤◌, false, length, slice_get, IsTrue, IfErr, OnOk};
+ghost use Rattle.std.specs.Prelude.{◌≡◌, ◌↔◌, ◌≤◌, ◌++◌, ◌∷◌, [], false, length, map, slice_get, take, IsTrue, IfErr, IfSome, OnOk};
 ghost use Rattle.hb_calculus.specs.Declarations.{names, names_of, IsIn};
-ghost use Rattle.hb_env.specs.Plain.{plain};
+ghost use Rattle.hb_env.specs.Plain.{plain, plains};
 ghost use Rattle.hb_step.specs.Reserved.{is_kept, is_reserved as kept, is_reserved_part as kept_part};
-ghost use Rattle.hb_step.specs.Naming.{IsReserved, IsStructure, IsTaken, IsRedeclared};
+ghost use Rattle.hb_step.specs.Naming.{IsReserved, IsStructure, IsTaken, IsRedeclared, IsUnfit};
 
 use crate::refusals::refused;
 use crate::reserved::{is_reserved, is_reserved_part};
@@ -75,25 +75,51 @@ fn is_structure(hier: &Hier, name: NameId) -> bool
 
 /// The first name of the declarations, in their order, that is taken, is among `made`, or stands earlier in
 /// them.
-pub fn first_taken(env: &Env, hier: &Hier, made: &[NameId], decls: &[Decl]) -> Option<NameId> {
-    for (before, decl) in decls.iter().enumerate() {
-        for at in 0..decl.name_count() {
-            let name = decl.name_at(at);
-            if is_taken(env, hier, name)
-                || made.iter().any(|other| other.0 == name.0)
-                || stands_before(decl, at, name)
-                || stand_in(decls, before, name)
-            {
-                return Some(name);
-            }
+pub fn first_taken(env: &Env, hier: &Hier, made: &[NameId], decls: &[Decl]) -> Option<NameId>
+    ensures taken { IfSome result (IsUnfit env.now hier.now (map (λ m. m.0) made.now) (plains decls.now)) }
+{
+    for at in 0..decls.len() {
+        if let Some(name) = first_of(env, hier, made, &decls[..at], &decls[at]) {
+            return Some(name);
         }
     }
     None
 }
 
+/// The first name of a declaration that is taken, is among `made`, or stands earlier in it or in those before
+/// it.
+fn first_of(env: &Env, hier: &Hier, made: &[NameId], before: &[Decl], decl: &Decl) -> Option<NameId>
+    ensures { IfSome result (IsUnfit env.now hier.now (map (λ m. m.0) made.now) (plains before.now ++ plain decl.now ∷ [])) }
+{
+    for at in 0..decl.name_count() {
+        let name = decl.name_at(at);
+        if is_taken(env, hier, name)
+            || is_made(made, name)
+            || stands_before(decl, at, name)
+            || stand_in(before, name)
+        {
+            return Some(name);
+        }
+    }
+    None
+}
+
+/// Whether the name is one of those made before.
+fn is_made(made: &[NameId], name: NameId) -> bool
+    ensures { IsTrue result → IsIn name.0 (map (λ m. m.0) made.now) }
+{
+    for other in made {
+        if *other == name {
+            return true;
+        }
+    }
+    false
+}
+
 /// Whether one of the first `end` names of the declaration is the name.
 fn stands_before(decl: &Decl, end: usize, name: NameId) -> bool
     requires { end ≤ length (names_of (plain decl.now)) }
+    ensures { IsTrue result → IsIn name.0 (take end (names_of (plain decl.now))) }
 {
     for at in 0..end {
         if decl.name_at(at) == name {
@@ -103,9 +129,11 @@ fn stands_before(decl: &Decl, end: usize, name: NameId) -> bool
     false
 }
 
-/// Whether one of the first `end` declarations has the name.
-fn stand_in(decls: &[Decl], end: usize, name: NameId) -> bool {
-    for decl in decls.iter().take(end) {
+/// Whether one of the declarations has the name.
+fn stand_in(decls: &[Decl], name: NameId) -> bool
+    ensures { IsTrue result → IsIn name.0 (names (plains decls.now)) }
+{
+    for decl in decls {
         if stands_before(decl, decl.name_count(), name) {
             return true;
         }

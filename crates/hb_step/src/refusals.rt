@@ -1,6 +1,7 @@
 //! Refusals at their places.
 ghost use Rattle.std.specs.Prelude.{◌≡◌};
 ghost use Rattle.hb_step.specs.Kernel.{reported};
+ghost use Rattle.hb_step.specs.Elaborating.{IsOfElaboration};
 
 use hb_base::Span;
 use hb_elab_terms::{ElabFault, ElabRefused};
@@ -17,6 +18,7 @@ pub fn refused(span: Span, what: What) -> Refusal
 /// The refusal of elaboration, at the place of its raw term.
 pub fn of_elaboration(refused: ElabRefused) -> Refusal
     ensures place { result.span ≡ refused.span }
+    ensures kind { IsOfElaboration result.what }
 {
     let ElabRefused { span, what } = refused;
     let what = match what {

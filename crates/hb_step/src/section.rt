@@ -1,5 +1,5 @@
 //! Whether a section is open.
-ghost use Rattle.std.specs.Prelude.{◌≡◌, Some, None, IfOk, OnOk, IfErr};
+ghost use Rattle.std.specs.Prelude.{◌≡◌, Some, None, IfOk, OnOk, IfErr, OnErr};
 ghost use Rattle.hb_env.specs.declared.refusal.What.TheVariants.{SectionOpen, NoSection};
 
 use crate::refusals::refused;
@@ -10,6 +10,7 @@ use hb_world::{Section, World};
 /// A command at this place that can't stand in a section.
 pub fn outside_section(world: &World, span: Span) -> Result<(), Refusal>
     ensures outside { OnOk result (world.now.section ≡ None) }
+    ensures inside { OnErr result (¬ (world.now.section ≡ None)) }
     ensures refused { IfErr result (λ r. (r.span ≡ span) × (r.what ≡ SectionOpen)) }
 {
     match &world.section {

@@ -1,1 +1,2 @@
+mod MakeLemmas
 mod GrowLemmas

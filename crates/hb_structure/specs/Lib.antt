@@ -1,1 +1,3 @@
 pub mod Grouping
+pub mod Making
+pub mod Refusing

@@ -1,19 +1,25 @@
 //! Taking a command.
-ghost use Rattle.std.specs.Prelude.{◌≡◌, None, IfOk, OnOk, OnErr};
+ghost use Rattle.std.specs.Prelude.{◌≡◌, None, IfOk, IfErr, OnOk, OnErr};
+ghost use Rattle.hb_calculus.specs.Budget.{budget};
+ghost use Rattle.hb_env.specs.Plain.{plains};
 ghost use Rattle.hb_raw.specs.Views.{act};
 ghost use Rattle.hb_raw.specs.Sentence.{structure};
 ghost use Rattle.hb_world.specs.Worlds.{background, IsAsBefore};
 ghost use Rattle.hb_hier.specs.Declaring.{with_structure};
+ghost use Rattle.hb_hier.specs.Hierarchy.{brought};
 ghost use Rattle.hb_world.specs.Taking.{Extends, HasGrown, HasAdded, HasHead, IsHeadOf, factory_names};
 ghost use Rattle.hb_structure.specs.Grouping.{HasStructure};
+ghost use Rattle.hb_structure.specs.Making.{IsMade, HasMade};
+ghost use Rattle.hb_structure.specs.Refusing.{StructureCause, Refuses};
 
-use crate::declaring::{check_set, declared};
+use crate::checking::{check_name, check_set};
+use crate::declaring::declared;
 use hb_base::{Limits, Span};
 use hb_env::{Entry, Head, Refusal, What};
 use hb_items::{check_items, item_names};
 use hb_kernel::Theory;
 use hb_raw::{Command, CommandKind, Item, Word};
-use hb_step::{not_reserved, not_reserved_part, not_taken, outside_section, refused};
+use hb_step::refused;
 use hb_world::{Done, World};
 use std::alloc::Global;
 
@@ -37,6 +43,10 @@ pub fn apply(
     ensures hier { OnOk result (HasStructure (act taken.now.kind) world.old.hier world.new.hier) }
     ensures outside { OnOk result (world.old.section ≡ None) }
     ensures section { OnOk result (world.new.section ≡ world.old.section) }
+    ensures made { IfOk result
+        (HasMade world.new.names theory.old (background world.old) (act taken.now.kind)) }
+    ensures refused { IfErr result
+        (Refuses theory.old (background world.old) (budget limits.now) taken.now.span (act taken.now.kind)) }
 {
     match &taken.kind {
         CommandKind::Structure {
@@ -49,7 +59,18 @@ pub fn apply(
             Ok(entry) => Ok(Done::Entry(entry)),
             Err(refusal) => Err(refusal),
         },
-        _ => Err(refused(taken.span, What::NotYet)),
+        CommandKind::Axiom { .. }
+        | CommandKind::Definition { .. }
+        | CommandKind::Mixin { .. }
+        | CommandKind::Factory { .. }
+        | CommandKind::Builders { .. }
+        | CommandKind::End
+        | CommandKind::Instance { .. }
+        | CommandKind::Join { .. }
+        | CommandKind::Find { .. }
+        | CommandKind::Require { .. }
+        | CommandKind::Howto { .. }
+        | CommandKind::About { .. } => Err(refused(taken.span, What::NotYet)),
     }
 }
 
@@ -72,11 +93,13 @@ fn take(
     ensures hier { OnOk result (world.new.hier ≡ with_structure world.old.hier name.name (factory_names items.now)) }
     ensures outside { OnOk result (world.old.section ≡ None) }
     ensures section { OnOk result (world.new.section ≡ world.old.section) }
+    ensures made { IfOk result
+        (λ e. IsMade world.new.names theory.old (background world.old) name.name (factory_names items.now)
+        (brought world.old.hier (factory_names items.now)) (plains e.decls.items)) }
+    ensures refused { IfErr result
+        (StructureCause theory.old (background world.old) (budget limits.now) span name carrier items.now) }
 {
-    outside_section(world, span)?;
-    not_reserved(&world.names, name.name, name.span)?;
-    not_reserved_part(&world.names, name.name, name.span)?;
-    not_taken(theory.env(), &world.hier, name.name, name.span)?;
+    check_name(theory, world, span, name.name, name.span)?;
     check_items(&world.hier, items, carrier)?;
     let Ok(items) = item_names(alloc, items) else {
         return Err(refused(name.span, What::NoMemory));

@@ -1,6 +1,7 @@
 //! Structures.
 #![tactic(auto)]
 
+mod checking;
 mod command;
 mod declaring;
 mod replaying;

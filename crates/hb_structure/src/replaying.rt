@@ -1,17 +1,22 @@
 //! Taking an entry of a library.
-ghost use Rattle.std.specs.Prelude.{◌≡◌, None, OnOk, OnErr};
+ghost use Rattle.std.specs.Prelude.{◌≡◌, None, IfErr, OnOk, OnErr};
+ghost use Rattle.hb_calculus.specs.Budget.{budget};
+ghost use Rattle.hb_env.specs.Plain.{plains};
 ghost use Rattle.hb_world.specs.Worlds.{background, IsAsBefore};
 ghost use Rattle.hb_hier.specs.Declaring.{with_structure};
 ghost use Rattle.hb_world.specs.Taking.{Extends, HasAdded};
 ghost use Rattle.hb_structure.specs.Grouping.{HasStructureOf};
+ghost use Rattle.hb_structure.specs.Making.{IsMade, HasMadeOf};
+ghost use Rattle.hb_structure.specs.Refusing.{CompareCause, LoadCause, LoadRefuses};
 
-use crate::declaring::{accept, check_set, made};
+use crate::checking::{check_name, check_set};
+use crate::declaring::{accept, made};
 use hb_base::{Limits, NameId};
 use hb_env::{Decl, Entry, Head, Places, Refusal, What};
 use hb_items::{bad_library, check_names, not_made};
 use hb_kernel::Theory;
 use hb_sets::MixSet;
-use hb_step::{Mark, not_reserved, not_reserved_part, not_taken, outside_section, refused};
+use hb_step::{Mark, refused};
 use hb_world::World;
 use std::alloc::Global;
 use std::vec::Vec;
@@ -34,15 +39,17 @@ pub fn replay(
     ensures hier { OnOk result (HasStructureOf entry.now.head world.old.hier world.new.hier) }
     ensures outside { OnOk result (world.old.section ≡ None) }
     ensures section { OnOk result (world.new.section ≡ world.old.section) }
+    ensures made { OnOk result
+        (HasMadeOf world.new.names theory.old (background world.old) entry.now.head (plains entry.now.decls.items)) }
+    ensures refused { IfErr result
+        (LoadRefuses theory.old (background world.old) (budget limits.now) places.now entry.now.head
+        (plains entry.now.decls.items)) }
 {
     let Head::Structure { name, items } = &entry.head else {
         return Err(refused(places.span, What::NotYet));
     };
     let span = places.span;
-    outside_section(world, span)?;
-    not_reserved(&world.names, *name, span)?;
-    not_reserved_part(&world.names, *name, span)?;
-    not_taken(theory.env(), &world.hier, *name, span)?;
+    check_name(theory, world, span, *name, span)?;
     check_names(&world.hier, items, span)?;
     let set = world.hier.brought(items);
     check_set(&world.hier, &set, *name, span)?;
@@ -73,6 +80,12 @@ fn taken(
     ensures names { Extends world.old.names world.new.names }
     ensures hier { OnOk result (world.new.hier ≡ with_structure world.old.hier name items.now) }
     ensures section { OnOk result (world.new.section ≡ world.old.section) }
+    ensures made { OnOk result
+        (IsMade world.new.names theory.old (background world.old) name items.now set.now
+        (plains entry.now.decls.items)) }
+    ensures refused { IfErr result
+        (LoadCause theory.old (background world.old) (budget limits.now) name items.now set.now places.now
+        (plains entry.now.decls.items)) }
 {
     let mark = Mark::new(theory, world);
     match made(alloc, theory, world, name, items, set, places.span) {
@@ -103,13 +116,16 @@ fn compared(
 ) -> Result<(), Refusal>
     ensures unchanged { OnErr result (theory.new ≡ theory.old) }
     ensures grown { OnOk result (HasAdded theory.old theory.new entry.now) }
+    ensures same { OnOk result (plains entry.now.decls.items ≡ plains decls.items) }
+    ensures refused { IfErr result
+        (CompareCause (budget limits.now) theory.old world.now.hier name places.now
+        (plains entry.now.decls.items) (plains decls.items)) }
 {
     match not_made(entry, places, &decls) {
-        Some(at) => return Err(bad_library(places, at)),
-        None => {}
-    }
-    match accept(alloc, theory, world, decls, name, limits, places.span) {
-        Ok(_decls) => Ok(()),
-        Err(refusal) => Err(refusal),
+        Some(at) => Err(bad_library(places, at)),
+        None => match accept(alloc, theory, world, decls, name, limits, places.span) {
+            Ok(_decls) => Ok(()),
+            Err(refusal) => Err(refusal),
+        },
     }
 }

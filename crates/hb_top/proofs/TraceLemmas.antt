@@ -1,12 +1,14 @@
 -- Steps of a run, one after another.
-use Rattle.std.proofs.Common.{◌≡◌, ℕ, List, [], ◌∷◌, Result, Ok, Err, OnOk, IfErr, refl, sym}
+use Rattle.std.proofs.Common.{◌≡◌, ℕ, List, [], ◌∷◌, Result, Ok, Err, OnOk, IfErr, refl, sym, subst}
+use Rattle.std.proofs.lemmas.List.{append-nil}
 use Rattle.hb_raw.specs.Sentence.{Act}
 use Rattle.hb_env.specs.declared.entry.Entry.{Entry}
 use Rattle.hb_base.specs.declared.name_id.NameId.{NameId}
 use Rattle.hb_events.specs.declared.event.Event.{Event}
 use Rattle.hb_events.specs.declared.event.Event.TheVariants as event
-use Rattle.hb_session.specs.Growing.{GrowsBy}
-use Rattle.hb_session.specs.Taking.{Takes, GoesOn, KeepsAll, OnlyNames}
+use Rattle.hb_env.specs.Plain.{plains}
+use Rattle.hb_session.specs.Growing.{GrowsBy, LeavesBy}
+use Rattle.hb_session.specs.Taking.{Takes, GoesOn, OnlyNames}
 use Rattle.hb_top.specs.Trace.{Point, IsSilent, Loads, IsAccepted, Writes, Tells, reads, takes, loads, adds, lists, Goes, start, step, Halts, Ends, library_line, accepted_line}
 use Rattle.hb_io.specs.Told.{grown}
 use Rattle.hb_top.specs.Stops.{IsOfSink}
@@ -41,17 +43,16 @@ halts_by_sink a b (SourceFault i) h = absurd h
 halts_by_sink a b SinkFault h = tt
 halts_by_sink a b NoMemory h = tt
 
--- what a refused command leaves
+-- what a refused command leaves, or a call that reads
 pub only_names : {a b : Point} → OnlyNames a.state b.state → IsSilent a b → Goes a b
-only_names h s =
-    step start (reads (record { env = h.env; hier = h.back.hier; tables = h.back.tables; section = h.back.section; made = h.back.made; entries = h.entries }) s)
+only_names h s = step start (reads h s)
 
-pub all_kept : {a b : Point} → KeepsAll a.state b.state → IsSilent a b → Goes a b
-all_kept h s = step start (reads h s)
+same_names : (a b : Point) → b.state ≡ a.state → OnlyNames a.state b.state
+same_names a b same =
+    subst (OnlyNames a.state) (sym same) (record { env = refl; back = record { more = []; names = sym (append-nil a.state.back.names); hier = refl; tables = refl; section = refl; made = refl }; entries = refl })
 
 pub nothing_done : {a b : Point} → b.state ≡ a.state → IsSilent a b → Goes a b
-nothing_done {a} {b} same s =
-    step start (reads (rw (sym same) (record { env = refl; hier = refl; tables = refl; section = refl; made = refl; entries = refl })) s)
+nothing_done {a} {b} same s = step start (reads (same_names a b same) s)
 
 -- a command that was taken, and told afterwards
 pub taken_told : {a m b : Point} (c : Act) (e : Event) → Takes a.state c e m.state → IsSilent a m → b.state ≡ m.state → Tells m b e → Goes a b
@@ -61,9 +62,9 @@ taken_told {a} {m} {b} c e t s same w =
 pub loaded_one : {a b : Point} (e : Entry) → Loads a.state e b.state → IsSilent a b → Goes a b
 loaded_one e g s = step start (loads e g s)
 
-pub added_told : {a m b : Point} (e : Entry) (n : NameId) → GoesOn a.state m.state (e ∷ []) → GrowsBy e.head a.state.env a.state.back m.state.back → IsSilent a m → b.state ≡ m.state → Tells m b (event.Core n) → Goes a b
-added_told {a} {m} {b} e n g h s same w =
-    step start (adds e n (rw same (record { goes_on = g; grows = h })) (record { text = w.text; told = w.told; written = record { lines = rw (sym s.lines) w.written.lines; out = rw (sym s.out) w.written.out } }))
+pub added_told : {a m b : Point} (e : Entry) (n : NameId) → GoesOn a.state m.state (e ∷ []) → GrowsBy e.head (plains e.decls.items) a.state.env a.state.back m.state.back → LeavesBy e.head (plains e.decls.items) a.state.back.hier a.state.back.section m.state.back.section → IsSilent a m → b.state ≡ m.state → Tells m b (event.Core n) → Goes a b
+added_told {a} {m} {b} e n g h l s same w =
+    step start (adds e n (rw same (record { goes_on = g; grows = h; leaves = l })) (record { text = w.text; told = w.told; written = record { lines = rw (sym s.lines) w.written.lines; out = rw (sym s.out) w.written.out } }))
 
 pub library_told : {a b : Point} (name : List ℕ) (n : ℕ) → b.state ≡ a.state → Writes a b (library_line name n) 1 → Goes a b
 library_told name n same w = step start (lists name n same w)
@@ -82,8 +83,8 @@ told_ends a m b c e (Ok x) t s same told cut = taken_told c e t s same told
 told_ends a m b c e (Err stop) t s same told cut = halts_by_sink a b stop cut
 
 -- an entry of a library that was taken, with its file noted
-pub loaded_noted : (a m b : Point) (e : Entry) → GoesOn a.state m.state (e ∷ []) → GrowsBy e.head a.state.env a.state.back m.state.back → b.state ≡ m.state → IsSilent a b → Goes a b
-loaded_noted a m b e g h same s = loaded_one e (rw same (record { goes_on = g; grows = h })) s
+pub loaded_noted : (a m b : Point) (e : Entry) → GoesOn a.state m.state (e ∷ []) → GrowsBy e.head (plains e.decls.items) a.state.env a.state.back m.state.back → LeavesBy e.head (plains e.decls.items) a.state.back.hier a.state.back.section m.state.back.section → b.state ≡ m.state → IsSilent a b → Goes a b
+loaded_noted a m b e g h l same s = loaded_one e (rw same (record { goes_on = g; grows = h; leaves = l })) s
 
 -- a library whose entries were taken, and then told or cut short
 pub library_ends : (a m b : Point) (name : List ℕ) (n : ℕ) (r : Result (Unit {0}) Stop) → Goes a m → b.state ≡ m.state → OnOk r (Writes m b (library_line name n) 1) → IfErr r IsOfSink → Ends a b r

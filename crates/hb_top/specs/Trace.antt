@@ -2,6 +2,7 @@
 use Rattle.std.specs.Prelude.{◌≡◌, ℕ, ◌+◌, ◌-◌, ◌^◌, min, List, [], ◌∷◌, Option, Result, Ok, Err, codes}
 use Rattle.std.specs.Fmt.{decimal}
 use Rattle.hb_base.specs.declared.name_id.NameId.{NameId}
+use Rattle.hb_env.specs.Plain.{plains}
 use Rattle.hb_env.specs.declared.entry.Entry.{Entry}
 use Rattle.hb_io.specs.Told.{grown}
 use Rattle.hb_raw.specs.Sentence.{Act}
@@ -9,9 +10,9 @@ use Rattle.hb_writer.specs.Text.{joined}
 use Rattle.hb_events.specs.Events.{IsToldAs, line_count}
 use Rattle.hb_events.specs.declared.event.Event.{Event}
 use Rattle.hb_events.specs.declared.event.Event.TheVariants as event
-use Rattle.hb_session.specs.Growing.{GrowsBy}
+use Rattle.hb_session.specs.Growing.{GrowsBy, LeavesBy}
 use Rattle.hb_session.specs.State.{State, state}
-use Rattle.hb_session.specs.Taking.{Takes, GoesOn, KeepsAll}
+use Rattle.hb_session.specs.Taking.{Takes, GoesOn, OnlyNames}
 use Rattle.hb_session.specs.declared.session.Session.{Session}
 use Rattle.hb_top.specs.declared.stop.Stop.{Stop}
 use Rattle.hb_top.specs.declared.stop.Stop.TheVariants.{Refused, SourceFault, SinkFault, NoMemory}
@@ -56,12 +57,13 @@ pub record Tells (a b : Point) (e : Event) : Type 0 where
 -- an entry of a library or of a core text is taken
 pub record Loads (S : State) (e : Entry) (S' : State) : Type 0 where
   pub goes_on : GoesOn S S' (e ∷ [])
-  pub grows : GrowsBy e.head S.env S.back S'.back
+  pub grows : GrowsBy e.head (plains e.decls.items) S.env S.back S'.back
+  pub leaves : LeavesBy e.head (plains e.decls.items) S.back.hier S.back.section S'.back.section
 
 -- One step of a run: names are numbered; a command is accepted and told; an entry of a library is taken; an entry
 -- of a core text is taken and told; a library is told.
 pub data Stride (a b : Point) : Type 0 where
-  reads : KeepsAll a.state b.state → IsSilent a b → Stride a b
+  reads : OnlyNames a.state b.state → IsSilent a b → Stride a b
   takes : (c : Act) (e : Event) → Takes a.state c e b.state → Tells a b e → Stride a b
   loads : (e : Entry) → Loads a.state e b.state → IsSilent a b → Stride a b
   adds : (e : Entry) (n : NameId) → Loads a.state e b.state → Tells a b (event.Core n) → Stride a b

@@ -24,7 +24,7 @@ pub(crate) const MOST_LIBRARY: usize = 536_870_912;
 const MOST_CORE: usize = 67_108_864;
 
 /// Loads a library into an empty session: each entry is taken as it was when it was saved.
-#[tactic(auto, using(crate::proofs::TraceLemmas::all_kept, crate::proofs::TraceLemmas::nothing_done, crate::proofs::TraceLemmas::goes_on, crate::proofs::TraceLemmas::then_halts, crate::proofs::TraceLemmas::no_step, crate::proofs::TraceLemmas::halts_there, crate::proofs::TraceLemmas::library_told, crate::proofs::TraceLemmas::halts_by_sink))]
+#[tactic(auto, using(crate::proofs::TraceLemmas::only_names, crate::proofs::TraceLemmas::nothing_done, crate::proofs::TraceLemmas::goes_on, crate::proofs::TraceLemmas::then_halts, crate::proofs::TraceLemmas::no_step, crate::proofs::TraceLemmas::halts_there, crate::proofs::TraceLemmas::library_told, crate::proofs::TraceLemmas::halts_by_sink))]
 pub(crate) fn load<D: Depot, K: Sink>(
     settings: Settings,
     session: &mut Session,
@@ -143,7 +143,7 @@ fn required_by(entry: &Entry) -> Option<NameId> {
 }
 
 /// Reads a core text and adds its declarations in order, each as an entry of its own.
-#[tactic(auto, using(crate::proofs::TraceLemmas::all_kept, crate::proofs::TraceLemmas::nothing_done, crate::proofs::TraceLemmas::goes_on, crate::proofs::TraceLemmas::then_halts, crate::proofs::TraceLemmas::no_step, crate::proofs::TraceLemmas::halts_there, crate::proofs::TraceLemmas::added_told, crate::proofs::TraceLemmas::only_names, crate::proofs::TraceLemmas::halts_by_sink))]
+#[tactic(auto, using(crate::proofs::TraceLemmas::only_names, crate::proofs::TraceLemmas::nothing_done, crate::proofs::TraceLemmas::goes_on, crate::proofs::TraceLemmas::then_halts, crate::proofs::TraceLemmas::no_step, crate::proofs::TraceLemmas::halts_there, crate::proofs::TraceLemmas::added_told, crate::proofs::TraceLemmas::halts_by_sink))]
 pub(crate) fn core<D: Depot, K: Sink>(
     settings: Settings,
     session: &mut Session,

@@ -2,7 +2,7 @@
 ghost use Rattle.std.specs.Prelude.{◌≡◌, ◌≤◌, IfOk, IfErr, Err, IsTrue, length};
 ghost use Rattle.hb_io.specs.Causes.{Rose};
 ghost use Rattle.hb_session.specs.State.{state};
-ghost use Rattle.hb_session.specs.Taking.{KeepsAll};
+ghost use Rattle.hb_session.specs.Taking.{OnlyNames};
 ghost use Rattle.hb_top.specs.Trace.{point, Ends};
 ghost use Rattle.hb_top.specs.Stops.{FilesStay, IsInner, IsSourceFault, IsTellable};
 
@@ -102,7 +102,7 @@ pub(crate) fn compile_source<D: Depot, K: Sink>(
 }
 
 /// Compiles the bytes of a source that was begun, and in place each source that it requires.
-#[tactic(auto, using(crate::proofs::TraceLemmas::all_kept, crate::proofs::TraceLemmas::then_ends, crate::proofs::TraceLemmas::no_step, crate::proofs::TraceLemmas::halts_there))]
+#[tactic(auto, using(crate::proofs::TraceLemmas::only_names, crate::proofs::TraceLemmas::then_ends, crate::proofs::TraceLemmas::no_step, crate::proofs::TraceLemmas::halts_there))]
 pub(crate) fn compile_bytes<D: Depot, K: Sink>(
     settings: Settings,
     session: &mut Session,
@@ -141,7 +141,7 @@ fn read_source(
 ) -> Result<Reading, Stop>
     requires { length bytes.now ≤ 1048576 }
     ensures inner { IfErr result IsInner }
-    ensures keeps { KeepsAll (state session.old) (state session.new) }
+    ensures keeps { OnlyNames (state session.old) (state session.new) }
     ensures lines { session.new.files.lines ≡ session.old.files.lines }
 {
     let mut rest = match commands(session, file, bytes) {
@@ -160,7 +160,7 @@ fn read_source(
 /// The commands of a source, with or without notations.
 fn commands(session: &mut Session, file: u16, bytes: &[u8]) -> Result<Vec<Command>, Refusal>
     requires { length bytes.now ≤ 1048576 }
-    ensures keeps { KeepsAll (state session.old) (state session.new) }
+    ensures keeps { OnlyNames (state session.old) (state session.new) }
     ensures lines { session.new.files.lines ≡ session.old.files.lines }
 {
     match session.commands(file, bytes) {
@@ -176,7 +176,7 @@ fn noted_commands(
     bytes: &[u8],
     refusal: Refusal,
 ) -> Result<Vec<Command>, Refusal>
-    ensures keeps { KeepsAll (state session.old) (state session.new) }
+    ensures keeps { OnlyNames (state session.old) (state session.new) }
     ensures lines { session.new.files.lines ≡ session.old.files.lines }
 {
     if stops_at_notation(bytes, &refusal) {
@@ -221,7 +221,7 @@ fn take_all<D: Depot, K: Sink>(
 
 /// Takes the next command of a source, or ends it; what is left of it, and what it requires, goes onto
 /// the stack.
-#[tactic(auto, using(crate::proofs::TraceLemmas::all_kept, crate::proofs::TraceLemmas::nothing_done, crate::proofs::TraceLemmas::then_ends, crate::proofs::TraceLemmas::no_step, crate::proofs::TraceLemmas::halts_there))]
+#[tactic(auto, using(crate::proofs::TraceLemmas::only_names, crate::proofs::TraceLemmas::nothing_done, crate::proofs::TraceLemmas::then_ends, crate::proofs::TraceLemmas::no_step, crate::proofs::TraceLemmas::halts_there))]
 fn turn<D: Depot, K: Sink>(
     settings: Settings,
     session: &mut Session,
@@ -362,7 +362,7 @@ fn require<D: Depot>(
     ensures sink { IfErr result (λ stop. stop ≡ Stop.SinkFault → ⊥) }
     ensures printed { IfErr result IsTellable }
     ensures files { FilesStay (D.file depot.old) (D.file depot.new) }
-    ensures keeps { KeepsAll (state session.old) (state session.new) }
+    ensures keeps { OnlyNames (state session.old) (state session.new) }
     ensures lines { session.new.files.lines ≡ session.old.files.lines }
 {
     if session.is_in_section() {

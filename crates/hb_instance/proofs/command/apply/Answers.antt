@@ -15,3 +15,6 @@ returns-in-Ok-clause-hier c =
     rw c.in-Instance.is
     (subst (λ l. Gives (option_map opened c.args.world.now.section) c.args.theory.now c.in-Instance.factory.name c.in-Instance.carrier.name (binder_names l) c.args.world.now.hier c.take.new.world.hier)
     c.deref.ensures.value c.in-Ok.ensures.hier)
+
+pub returns-in-Ok-clause-section : goal.returns-in-Ok-clause-section
+returns-in-Ok-clause-section c = rw c.in-Instance.is c.in-Ok.ensures.section

@@ -11,4 +11,4 @@ invariant_of-self-in-Ok-Entry c = record {
 pub returns-in-Ok-Entry-clause-taken : goal.returns-in-Ok-Entry-clause-taken
 returns-in-Ok-Entry-clause-taken c =
     takes_entry _ _ _ _ c.in-Ok-Entry.entry c.requires.family (rw c.in-Ok-Entry.field-0-is at c.in-Ok-Entry.ensures.head) c.requires.event
-    (rw (sym c.reserve.ensures.items) c.push_reserved.ensures.items) (rw c.in-Ok-Entry.field-0-is at c.in-Ok-Entry.ensures.grown) c.in-Ok-Entry.ensures.names c.in-Ok-Entry.ensures.grows
+    (rw (sym c.reserve.ensures.items) c.push_reserved.ensures.items) (rw c.in-Ok-Entry.field-0-is at c.in-Ok-Entry.ensures.grown) c.in-Ok-Entry.ensures.names c.in-Ok-Entry.ensures.grows c.in-Ok-Entry.ensures.leaves

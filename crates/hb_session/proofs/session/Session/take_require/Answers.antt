@@ -13,4 +13,4 @@ invariant_of-self-2 c = record {
 pub returns-clause-taken : goal.returns-clause-taken
 returns-clause-taken c =
     takes_require _ _ c.args.name (record { head = heads.Require c.args.name.name; decls = c.new.result }) refl (rw c.new.ensures.items refl)
-    (rw (sym c.in-Ok.ensures.items) c.push_reserved.ensures.items) refl refl refl
+    (rw (sym c.in-Ok.ensures.items) c.push_reserved.ensures.items) refl refl refl refl

@@ -1,0 +1,3 @@
+mod ClosingLemmas
+mod LoadingLemmas
+mod RefusalLemmas
