@@ -1,4 +1,5 @@
 -- what public contracts rest on
+pub mod Agenda
 pub mod Difference
 pub mod Exit
 pub mod Joins
@@ -7,3 +8,5 @@ pub mod Reported
 pub mod Stays
 pub mod Stops
 pub mod Trace
+-- what the crate's own functions promise each other
+pub mod Stack

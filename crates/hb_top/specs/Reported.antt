@@ -2,12 +2,15 @@
 use Rattle.std.specs.Prelude.{◌≡◌, ◌⊎◌, ℕ, Bool, true, false, cond, List, [], ◌∷◌, Option, None, Some, Result, Ok, Err, codes}
 use Rattle.std.specs.Fmt.{decimal}
 use Rattle.std.specs.Str.{bytes_eq}
-use Rattle.hb_io.specs.Told.{grown}
+use Rattle.hb_io.specs.Told.{grown, Told}
 use Rattle.hb_writer.specs.Text.{joined}
+use Rattle.hb_words.specs.Asked.{AsksFor}
+use Rattle.hb_words.specs.Jobs.{word_of}
 use Rattle.hb_words.specs.declared.job.Job.{Job}
 use Rattle.hb_words.specs.declared.job.Job.TheVariants as jobs
 use Rattle.hb_session.specs.State.{State, nothing}
-use Rattle.hb_top.specs.Trace.{Point, Goes, IsAccepted}
+use Rattle.hb_top.specs.Agenda.{Agenda, agenda_of}
+use Rattle.hb_top.specs.Trace.{Point, GoesPart, IsAccepted}
 use Rattle.hb_top.specs.declared.stop.Stop.{Stop}
 use Rattle.hb_top.specs.declared.stop.Stop.TheVariants.{Refused, SourceFault, SinkFault, NoMemory}
 use Rattle.hb_top.specs.Report.{IsToldIn}
@@ -42,10 +45,10 @@ Behind saving t = (lib : List ℕ) × (t ≡ saved_line lib)
 Behind certifying t = (cert : List ℕ) × (decls : ℕ) × (lines : ℕ) × (t ≡ certified_line cert decls lines)
 Behind other t = Unit {0}
 
--- commands were all accepted and told, then their number, and then what the first word asks for
-pub record IsWhole (k : Kind) (a b : Point) : Type 0 where
+-- all was done and told, then the number of lines, and then what the first word asks for
+pub record IsWhole (k : Kind) (F : List ℕ → Told) (A : Agenda) (a b : Point) : Type 0 where
   pub done : Point
-  pub accepted : IsAccepted a done
+  pub accepted : IsAccepted F A a done
   pub state : b.state ≡ done.state
   pub last : List ℕ
   pub behind : Behind k last
@@ -67,50 +70,50 @@ Certifies out out' cert (Err (SourceFault i)) = out' ≡ out
 Certifies out out' cert (Err SinkFault) = Unit {0}
 Certifies out out' cert (Err NoMemory) = Unit {0}
 
--- a run went so far, or told the number of lines too
-abbrev pub GoesOrAccepts : (a b : Point) → Type 0
-GoesOrAccepts a b = Goes a b ⊎ IsAccepted a b
+-- a run did a part of what was to be done, or all and told the number of lines too
+abbrev pub GoesOrAccepts : (F : List ℕ → Told) → Agenda → (a b : Point) → Type 0
+GoesOrAccepts F A a b = GoesPart F A a b ⊎ IsAccepted F A a b
 
-abbrev pub Stopped : (a b : Point) → Stop → Type 0
-Stopped a b (Refused r) = GoesOrAccepts a b
-Stopped a b (SourceFault i) = GoesOrAccepts a b
-Stopped a b SinkFault = Unit {0}
-Stopped a b NoMemory = Unit {0}
+abbrev pub Stopped : (F : List ℕ → Told) → Agenda → (a b : Point) → Stop → Type 0
+Stopped F A a b (Refused r) = GoesOrAccepts F A a b
+Stopped F A a b (SourceFault i) = GoesOrAccepts F A a b
+Stopped F A a b SinkFault = Unit {0}
+Stopped F A a b NoMemory = Unit {0}
 
-abbrev pub WorksOut : Kind → (a b : Point) → Result (Unit {0}) Stop → Type 0
-WorksOut k a b (Ok x) = IsWhole k a b
-WorksOut k a b (Err stop) = Stopped a b stop
+abbrev pub WorksOut : Kind → (F : List ℕ → Told) → Agenda → (a b : Point) → Result (Unit {0}) Stop → Type 0
+WorksOut k F A a b (Ok x) = IsWhole k F A a b
+WorksOut k F A a b (Err stop) = Stopped F A a b stop
 
 -- what is told of the work of a row, up to its end
-abbrev pub Works : Kind → (a b : Point) → Result (Unit {0}) Stop → Type 0
-Works other a b r = Unit {0}
-Works k a b r = WorksOut k a b r
+abbrev pub Works : Kind → (F : List ℕ → Told) → Agenda → (a b : Point) → Result (Unit {0}) Stop → Type 0
+Works other F A a b r = Unit {0}
+Works k F A a b r = WorksOut k F A a b r
 
 -- a run went so far, and its last line tells why it stopped there
-pub record IsCut (a : Point) (S : State) (out' : Option (List ℕ)) (end : Status) : Type 0 where
+pub record IsCut (F : List ℕ → Told) (A : Agenda) (a : Point) (S : State) (out' : Option (List ℕ)) (end : Status) : Type 0 where
   pub last : Point
-  pub went : GoesOrAccepts a last
+  pub went : GoesOrAccepts F A a last
   pub state : last.state ≡ S
   pub stop : Stop
   pub told : IsToldIn S stop last.out out' end
 
 -- a run that was done whole, with this session and this in the sink
-pub record IsDone (k : Kind) (a : Point) (S : State) (out' : Option (List ℕ)) : Type 0 where
+pub record IsDone (k : Kind) (F : List ℕ → Told) (A : Agenda) (a : Point) (S : State) (out' : Option (List ℕ)) : Type 0 where
   pub end : Point
-  pub whole : IsWhole k a end
+  pub whole : IsWhole k F A a end
   pub state : end.state ≡ S
   pub out : out' ≡ end.out
 
-abbrev pub Reports : Kind → (a : Point) → State → (out' : Option (List ℕ)) → Status → Type 0
-Reports k a S out' status.Done = IsDone k a S out'
-Reports k a S out' status.Refused = IsCut a S out' status.Refused
-Reports k a S out' status.Spent = IsCut a S out' status.Spent
-Reports k a S out' status.SourceFault = IsCut a S out' status.SourceFault
-Reports k a S out' _ = Unit {0}
+abbrev pub Reports : Kind → (F : List ℕ → Told) → Agenda → (a : Point) → State → (out' : Option (List ℕ)) → Status → Type 0
+Reports k F A a S out' status.Done = IsDone k F A a S out'
+Reports k F A a S out' status.Refused = IsCut F A a S out' status.Refused
+Reports k F A a S out' status.Spent = IsCut F A a S out' status.Spent
+Reports k F A a S out' status.SourceFault = IsCut F A a S out' status.SourceFault
+Reports k F A a S out' _ = Unit {0}
 
-abbrev pub HasReported : Kind → (a : Point) → State → (out' : Option (List ℕ)) → Status → Type 0
-HasReported other a S out' s = Unit {0}
-HasReported k a S out' s = Reports k a S out' s
+abbrev pub HasReported : Kind → (F : List ℕ → Told) → Agenda → (a : Point) → State → (out' : Option (List ℕ)) → Status → Type 0
+HasReported other F A a S out' s = Unit {0}
+HasReported k F A a S out' s = Reports k F A a S out' s
 
 -- a job that writes a line for each command
 abbrev pub is_aloud : Job → Bool
@@ -124,7 +127,15 @@ is_aloud _ = false
 abbrev pub beginning : (out : Option (List ℕ)) → Point
 beginning out = record { state = nothing; lines = 0; out = out }
 
--- what a run reports that has this first word
-abbrev pub ReportsFrom : (first : Option (List ℕ)) → (a : Point) → State → (out' : Option (List ℕ)) → Status → Type 0
-ReportsFrom None a S out' s = Unit {0}
-ReportsFrom (Some word) a S out' s = HasReported (asked_by word) a S out' s
+-- what a run reports of the job that its words ask for, where its files held this
+pub record ReportsJob (words : List (List ℕ)) (F : List ℕ → Told) (a : Point) (S : State) (out' : Option (List ℕ)) (s : Status) : Type 0 where
+  pub job : Job
+  pub asked : AsksFor words job
+  pub reported : HasReported (asked_by (word_of job)) F (agenda_of job) a S out' s
+
+-- what a run reports, whose words may ask for nothing, or memory may be wanting
+abbrev pub ReportsFrom : (words : List (List ℕ)) → (F : List ℕ → Told) → (a : Point) → State → (out' : Option (List ℕ)) → Status → Type 0
+ReportsFrom words F a S out' status.Usage = Unit {0}
+ReportsFrom words F a S out' status.SinkFault = Unit {0}
+ReportsFrom words F a S out' status.NoMemory = Unit {0}
+ReportsFrom words F a S out' s = ReportsJob words F a S out' s

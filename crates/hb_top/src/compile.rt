@@ -1,7 +1,9 @@
 //! The files of the command line, compiled in order into one session.
-ghost use Rattle.std.specs.Prelude.{◌≡◌, ◌≤◌, IfErr, Err, IsTrue, OnOk};
+ghost use Rattle.std.specs.Prelude.{◌≡◌, ◌≤◌, ◌∷◌, [], map, string_bytes, IfErr, Err, IsTrue, OnOk};
 ghost use Rattle.hb_io.specs.Causes.{Rose};
 ghost use Rattle.hb_io.specs.Told.{grown};
+ghost use Rattle.hb_top.specs.Agenda as task;
+ghost use Rattle.hb_top.specs.Agenda.{files_then};
 ghost use Rattle.hb_top.specs.Trace.{accepted_line, point, Accepts, Ends};
 ghost use Rattle.hb_top.specs.Stops.{FilesStay, IsOfSink, IsSourceFault, IsTellable};
 
@@ -30,8 +32,9 @@ pub(crate) fn compile_file<D: Depot, K: Sink>(
     ensures sink { result ≡ Err Stop.SinkFault → Rose (K.faults out.old) (K.faults out.new) }
     ensures printed { IfErr result IsTellable }
     ensures files { FilesStay (D.file depot.old) (D.file depot.new) }
-    ensures went { IsTrue settings.aloud → Ends (point session.old (K.contents out.old))
-        (point session.new (K.contents out.new)) result }
+    ensures went { IsTrue settings.aloud → Ends (D.file depot.old)
+        (task.file name.now ∷ []) (point session.old (K.contents out.old))
+        [] (point session.new (K.contents out.new)) result }
 {
     if name.as_bytes().ends_with(b".hbl") {
         load(settings, session, depot, out, emitters, name)
@@ -41,7 +44,6 @@ pub(crate) fn compile_file<D: Depot, K: Sink>(
 }
 
 /// Compiles the files in order, and writes how many lines there were.
-#[tactic(auto, using(crate::proofs::TraceLemmas::accepted_told, crate::proofs::TraceLemmas::halts_by_sink))]
 pub(crate) fn compile_files<D: Depot, K: Sink>(
     settings: Settings,
     session: &mut Session,
@@ -57,7 +59,8 @@ pub(crate) fn compile_files<D: Depot, K: Sink>(
     ensures sink { result ≡ Err Stop.SinkFault → Rose (K.faults out.old) (K.faults out.new) }
     ensures printed { IfErr result IsTellable }
     ensures files { FilesStay (D.file depot.old) (D.file depot.new) }
-    ensures told { IsTrue settings.aloud → Accepts (point session.old (K.contents out.old))
+    ensures told { IsTrue settings.aloud → Accepts (D.file depot.old)
+        (files_then (map string_bytes names.now) []) (point session.old (K.contents out.old))
         (point session.new (K.contents out.new)) result }
 {
     match compile_each(settings, session, depot, out, emitters, names) {
@@ -68,7 +71,6 @@ pub(crate) fn compile_files<D: Depot, K: Sink>(
 }
 
 /// Compiles the files in order.
-#[tactic(auto, using(crate::proofs::TraceLemmas::no_step, crate::proofs::TraceLemmas::goes_on, crate::proofs::TraceLemmas::then_halts))]
 fn compile_each<D: Depot, K: Sink>(
     settings: Settings,
     session: &mut Session,
@@ -84,8 +86,9 @@ fn compile_each<D: Depot, K: Sink>(
     ensures sink { result ≡ Err Stop.SinkFault → Rose (K.faults out.old) (K.faults out.new) }
     ensures printed { IfErr result IsTellable }
     ensures files { FilesStay (D.file depot.old) (D.file depot.new) }
-    ensures went { IsTrue settings.aloud → Ends (point session.old (K.contents out.old))
-        (point session.new (K.contents out.new)) result }
+    ensures went { IsTrue settings.aloud → Ends (D.file depot.old)
+        (files_then (map string_bytes names.now) []) (point session.old (K.contents out.old))
+        [] (point session.new (K.contents out.new)) result }
 {
     'files: for name in names {
         match compile_file(settings, session, depot, out, emitters, name.as_str()) {

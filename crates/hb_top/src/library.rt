@@ -1,8 +1,12 @@
 //! Loading libraries and core texts.
-ghost use Rattle.std.specs.Prelude.{◌≡◌, ◌≤◌, ℕ, List, IfErr, Err, IsTrue, OnOk, Option};
+ghost use Rattle.std.specs.Prelude.{◌≡◌, ◌≤◌, ◌∷◌, [], ℕ, List, true, IfOk, IfErr, Err, IsTrue, OnOk, Option};
+ghost use Rattle.hb_env.specs.Plain.{plain};
 ghost use Rattle.hb_io.specs.Causes.{Rose};
+ghost use Rattle.hb_io.specs.Told.{Told};
 ghost use Rattle.hb_session.specs.State.{state};
-ghost use Rattle.hb_top.specs.Trace.{library_line, point, Ends, Writes};
+ghost use Rattle.hb_words.specs.Jobs.{is_library};
+ghost use Rattle.hb_top.specs.Agenda as task;
+ghost use Rattle.hb_top.specs.Trace.{library_line, name_of_decl, point, Ends, IsCoreEntry, Writes};
 ghost use Rattle.hb_top.specs.Stops.{FilesStay, IsInner, IsOfSink, IsSourceFault, IsTellable};
 
 use crate::settings::Settings;
@@ -24,7 +28,7 @@ pub(crate) const MOST_LIBRARY: usize = 536_870_912;
 const MOST_CORE: usize = 67_108_864;
 
 /// Loads a library into an empty session: each entry is taken as it was when it was saved.
-#[tactic(auto, using(crate::proofs::TraceLemmas::only_names, crate::proofs::TraceLemmas::nothing_done, crate::proofs::TraceLemmas::goes_on, crate::proofs::TraceLemmas::then_halts, crate::proofs::TraceLemmas::no_step, crate::proofs::TraceLemmas::halts_there, crate::proofs::TraceLemmas::library_told, crate::proofs::TraceLemmas::halts_by_sink))]
+#[tactic(auto, using(crate::proofs::TraceLemmas::refused_same, crate::proofs::TraceLemmas::refused_there))]
 pub(crate) fn load<D: Depot, K: Sink>(
     settings: Settings,
     session: &mut Session,
@@ -40,8 +44,9 @@ pub(crate) fn load<D: Depot, K: Sink>(
     ensures sink { result ≡ Err Stop.SinkFault → Rose (K.faults out.old) (K.faults out.new) }
     ensures printed { IfErr result IsTellable }
     ensures files { FilesStay (D.file depot.old) (D.file depot.new) }
-    ensures went { IsTrue settings.aloud → Ends (point session.old (K.contents out.old))
-        (point session.new (K.contents out.new)) result }
+    ensures went { IsTrue settings.aloud → is_library name.now ≡ true → Ends (D.file depot.old)
+        (task.file name.now ∷ []) (point session.old (K.contents out.old))
+        [] (point session.new (K.contents out.new)) result }
 {
     let file = session.files.begin(name, Stage::Other)?;
     let bytes = match read(settings.alloc, depot, file, name, MOST_LIBRARY) {
@@ -94,7 +99,7 @@ fn tell_library<K: Sink>(
 }
 
 /// Takes one entry of a library. A file that was required counts as compiled.
-#[tactic(auto, using(crate::proofs::TraceLemmas::only_names, crate::proofs::TraceLemmas::loaded_noted, crate::proofs::TraceLemmas::no_step, crate::proofs::TraceLemmas::halts_there, crate::proofs::TraceLemmas::then_halts))]
+#[tactic(auto, using(crate::proofs::TraceLemmas::refused_there, crate::proofs::TraceLemmas::refused_same))]
 fn load_entry(
     settings: Settings,
     session: &mut Session,
@@ -103,7 +108,8 @@ fn load_entry(
     places: &Places,
 ) -> Result<(), Stop>
     ensures inner { IfErr result IsInner }
-    ensures went { (o : Option (List ℕ)) → Ends (point session.old o) (point session.new o) result }
+    ensures went { (F : List ℕ → Told) (o : Option (List ℕ)) → Ends F (task.entry entry ∷ [])
+        (point session.old o) [] (point session.new o) result }
 {
     let required = required_by(&entry);
     match session.replay(entry, places, &settings.limits) {
@@ -143,7 +149,7 @@ fn required_by(entry: &Entry) -> Option<NameId> {
 }
 
 /// Reads a core text and adds its declarations in order, each as an entry of its own.
-#[tactic(auto, using(crate::proofs::TraceLemmas::only_names, crate::proofs::TraceLemmas::nothing_done, crate::proofs::TraceLemmas::goes_on, crate::proofs::TraceLemmas::then_halts, crate::proofs::TraceLemmas::no_step, crate::proofs::TraceLemmas::halts_there, crate::proofs::TraceLemmas::added_told, crate::proofs::TraceLemmas::halts_by_sink))]
+#[tactic(auto, using(crate::proofs::TraceLemmas::refused_same, crate::proofs::TraceLemmas::refused_there))]
 pub(crate) fn core<D: Depot, K: Sink>(
     settings: Settings,
     session: &mut Session,
@@ -159,8 +165,9 @@ pub(crate) fn core<D: Depot, K: Sink>(
     ensures sink { result ≡ Err Stop.SinkFault → Rose (K.faults out.old) (K.faults out.new) }
     ensures printed { IfErr result IsTellable }
     ensures files { FilesStay (D.file depot.old) (D.file depot.new) }
-    ensures went { IsTrue settings.aloud → Ends (point session.old (K.contents out.old))
-        (point session.new (K.contents out.new)) result }
+    ensures went { IsTrue settings.aloud → Ends (D.file depot.old)
+        (task.core_text name.now ∷ []) (point session.old (K.contents out.old))
+        [] (point session.new (K.contents out.new)) result }
 {
     let file = session.files.begin(name, Stage::Other)?;
     let bytes = match read(settings.alloc, depot, file, name, MOST_CORE) {
@@ -197,7 +204,9 @@ pub(crate) fn core<D: Depot, K: Sink>(
 }
 
 /// The entry of a declaration of a core text.
-fn core_entry(alloc: Global, decl: Decl) -> Result<Entry, AllocError> {
+fn core_entry(alloc: Global, decl: Decl) -> Result<Entry, AllocError>
+    ensures { IfOk result (IsCoreEntry (plain decl)) }
+{
     let mut decls = Vec::new(alloc);
     decls.push(decl)?;
     Ok(Entry {
@@ -214,7 +223,9 @@ fn places_of(alloc: Global, at: u32) -> Result<Vec<u32>, AllocError> {
 }
 
 /// The declared name of a declaration.
-fn declared_by(decl: &Decl) -> NameId {
+fn declared_by(decl: &Decl) -> NameId
+    ensures { name_of_decl (plain decl.now) ≡ result.0 }
+{
     match decl {
         Decl::Axiom { name, .. } => *name,
         Decl::Def { name, .. } => *name,

@@ -1,8 +1,15 @@
 //! Compiling sources.
-ghost use Rattle.std.specs.Prelude.{◌≡◌, ◌≤◌, IfOk, IfErr, Err, IsTrue, length};
+ghost use Rattle.std.specs.Prelude.{◌≡◌, ◌≤◌, ◌∷◌, [], ℕ, List, Some, false, reverse, IfOk, IfErr, IfSome, OnOk, Err, IsTrue, length};
 ghost use Rattle.hb_io.specs.Causes.{Rose};
+ghost use Rattle.hb_io.specs.Told.{Told, TellsOnly};
+ghost use Rattle.hb_raw.specs.Views.{command as view, sentences};
+ghost use Rattle.hb_session.specs.Reporting.{source_name};
+ghost use Rattle.hb_session.specs.Source.{FormCause, IsSourceOf, MayHaveNotations};
 ghost use Rattle.hb_session.specs.State.{state};
 ghost use Rattle.hb_session.specs.Taking.{OnlyNames};
+ghost use Rattle.hb_words.specs.Jobs.{is_library};
+ghost use Rattle.hb_top.specs.Agenda as task;
+ghost use Rattle.hb_top.specs.Stack.{reading_then, required_then, stack_then, IsReading, IsRequired};
 ghost use Rattle.hb_top.specs.Trace.{point, Ends};
 ghost use Rattle.hb_top.specs.Stops.{FilesStay, IsInner, IsSourceFault, IsTellable};
 
@@ -33,6 +40,7 @@ pub(crate) fn read<D: Depot>(
     most: usize,
 ) -> Result<Vec<u8>, Stop>
     ensures fits { IfOk result (λ bytes. length bytes.items ≤ most) }
+    ensures told { IfOk result (λ bytes. TellsOnly (D.file depot.old name.now) bytes.items) }
     ensures depot_later { D.faults depot.old ≤ D.faults depot.new }
     ensures source { IfErr result
         (λ stop. IsSourceFault stop → Rose (D.faults depot.old) (D.faults depot.new)) }
@@ -62,7 +70,7 @@ struct Reading {
 }
 
 /// Compiles a source of the command line into the session, and in place each source that it requires.
-#[tactic(auto, using(crate::proofs::TraceLemmas::nothing_done, crate::proofs::TraceLemmas::then_ends, crate::proofs::TraceLemmas::no_step, crate::proofs::TraceLemmas::halts_there))]
+#[tactic(auto, using(crate::proofs::TraceLemmas::refused_same))]
 pub(crate) fn compile_source<D: Depot, K: Sink>(
     settings: Settings,
     session: &mut Session,
@@ -78,8 +86,9 @@ pub(crate) fn compile_source<D: Depot, K: Sink>(
     ensures sink { result ≡ Err Stop.SinkFault → Rose (K.faults out.old) (K.faults out.new) }
     ensures printed { IfErr result IsTellable }
     ensures files { FilesStay (D.file depot.old) (D.file depot.new) }
-    ensures went { IsTrue settings.aloud → Ends (point session.old (K.contents out.old))
-        (point session.new (K.contents out.new)) result }
+    ensures went { IsTrue settings.aloud → is_library name.now ≡ false → Ends (D.file depot.old)
+        (task.file name.now ∷ []) (point session.old (K.contents out.old))
+        [] (point session.new (K.contents out.new)) result }
 {
     if !session.files.has_room() {
         let file = session.files.begin(name, Stage::Other)?;
@@ -102,7 +111,7 @@ pub(crate) fn compile_source<D: Depot, K: Sink>(
 }
 
 /// Compiles the bytes of a source that was begun, and in place each source that it requires.
-#[tactic(auto, using(crate::proofs::TraceLemmas::only_names, crate::proofs::TraceLemmas::then_ends, crate::proofs::TraceLemmas::no_step, crate::proofs::TraceLemmas::halts_there))]
+#[tactic(auto, using(crate::proofs::TraceLemmas::refused_there, crate::proofs::TraceLemmas::refused_same))]
 pub(crate) fn compile_bytes<D: Depot, K: Sink>(
     settings: Settings,
     session: &mut Session,
@@ -120,8 +129,9 @@ pub(crate) fn compile_bytes<D: Depot, K: Sink>(
     ensures sink { result ≡ Err Stop.SinkFault → Rose (K.faults out.old) (K.faults out.new) }
     ensures printed { IfErr result IsTellable }
     ensures files { FilesStay (D.file depot.old) (D.file depot.new) }
-    ensures went { IsTrue settings.aloud → Ends (point session.old (K.contents out.old))
-        (point session.new (K.contents out.new)) result }
+    ensures went { IsTrue settings.aloud → (name : List ℕ) → is_library name ≡ false → TellsOnly (D.file depot.old name) bytes.now → Ends (D.file depot.old)
+        (task.file name ∷ []) (point session.old (K.contents out.old))
+        [] (point session.new (K.contents out.new)) result }
 {
     let first = match read_source(session, file, bytes, None) {
         Ok(first) => first,
@@ -140,8 +150,10 @@ fn read_source(
     required: Option<Word>,
 ) -> Result<Reading, Stop>
     requires { length bytes.now ≤ 1048576 }
+    ensures opened { IfOk result
+        (IsReading file bytes.now (state session.new).back.names required) }
     ensures inner { IfErr result IsInner }
-    ensures keeps { OnlyNames (state session.old) (state session.new) }
+    ensures only_names { OnlyNames (state session.old) (state session.new) }
     ensures lines { session.new.files.lines ≡ session.old.files.lines }
 {
     let mut rest = match commands(session, file, bytes) {
@@ -160,7 +172,9 @@ fn read_source(
 /// The commands of a source, with or without notations.
 fn commands(session: &mut Session, file: u16, bytes: &[u8]) -> Result<Vec<Command>, Refusal>
     requires { length bytes.now ≤ 1048576 }
-    ensures keeps { OnlyNames (state session.old) (state session.new) }
+    ensures source { IfOk result
+        (λ cs. IsSourceOf file bytes.now (state session.new).back.names (sentences cs.items)) }
+    ensures only_names { OnlyNames (state session.old) (state session.new) }
     ensures lines { session.new.files.lines ≡ session.old.files.lines }
 {
     match session.commands(file, bytes) {
@@ -176,7 +190,9 @@ fn noted_commands(
     bytes: &[u8],
     refusal: Refusal,
 ) -> Result<Vec<Command>, Refusal>
-    ensures keeps { OnlyNames (state session.old) (state session.new) }
+    requires form { FormCause file bytes.now (state session.old).back.names refusal.span refusal.what }
+    ensures noted { OnOk result (MayHaveNotations file bytes.now) }
+    ensures only_names { OnlyNames (state session.old) (state session.new) }
     ensures lines { session.new.files.lines ≡ session.old.files.lines }
 {
     if stops_at_notation(bytes, &refusal) {
@@ -187,7 +203,7 @@ fn noted_commands(
 }
 
 /// Takes the commands of the sources of the stack, of which the last is read first.
-#[tactic(auto, using(crate::proofs::TraceLemmas::goes_on, crate::proofs::TraceLemmas::then_halts, crate::proofs::TraceLemmas::no_step, crate::proofs::TraceLemmas::halts_there))]
+#[tactic(auto, using(crate::proofs::TraceLemmas::no_step))]
 fn take_all<D: Depot, K: Sink>(
     settings: Settings,
     session: &mut Session,
@@ -203,8 +219,9 @@ fn take_all<D: Depot, K: Sink>(
     ensures sink { result ≡ Err Stop.SinkFault → Rose (K.faults out.old) (K.faults out.new) }
     ensures printed { IfErr result IsTellable }
     ensures files { FilesStay (D.file depot.old) (D.file depot.new) }
-    ensures went { IsTrue settings.aloud → Ends (point session.old (K.contents out.old))
-        (point session.new (K.contents out.new)) result }
+    ensures went { IsTrue settings.aloud → Ends (D.file depot.old)
+        (stack_then stack.items []) (point session.old (K.contents out.old))
+        [] (point session.new (K.contents out.new)) result }
 {
     let mut stack = stack;
     'turns: for _ in 0..MOST_TURNS {
@@ -221,7 +238,7 @@ fn take_all<D: Depot, K: Sink>(
 
 /// Takes the next command of a source, or ends it; what is left of it, and what it requires, goes onto
 /// the stack.
-#[tactic(auto, using(crate::proofs::TraceLemmas::only_names, crate::proofs::TraceLemmas::nothing_done, crate::proofs::TraceLemmas::then_ends, crate::proofs::TraceLemmas::no_step, crate::proofs::TraceLemmas::halts_there))]
+#[tactic(auto, using(crate::proofs::TraceLemmas::no_step))]
 fn turn<D: Depot, K: Sink>(
     settings: Settings,
     session: &mut Session,
@@ -238,8 +255,9 @@ fn turn<D: Depot, K: Sink>(
     ensures sink { result ≡ Err Stop.SinkFault → Rose (K.faults out.old) (K.faults out.new) }
     ensures printed { IfErr result IsTellable }
     ensures files { FilesStay (D.file depot.old) (D.file depot.new) }
-    ensures went { IsTrue settings.aloud → Ends (point session.old (K.contents out.old))
-        (point session.new (K.contents out.new)) result }
+    ensures went { IsTrue settings.aloud → Ends (D.file depot.old)
+        (reading_then now (stack_then stack.old.items [])) (point session.old (K.contents out.old))
+        (stack_then stack.new.items []) (point session.new (K.contents out.new)) result }
 {
     let mut now = now;
     let Some(command) = now.rest.pop() else {
@@ -262,7 +280,7 @@ fn turn<D: Depot, K: Sink>(
 }
 
 /// Ends a source, and takes the command that required it. In a section it is refused at its end.
-#[tactic(auto, using(crate::proofs::TraceLemmas::nothing_done, crate::proofs::TraceLemmas::then_ends, crate::proofs::TraceLemmas::no_step, crate::proofs::TraceLemmas::halts_there))]
+#[tactic(auto, using(crate::proofs::TraceLemmas::refused_same))]
 fn end<K: Sink>(
     settings: Settings,
     session: &mut Session,
@@ -274,8 +292,9 @@ fn end<K: Sink>(
     ensures source { IfErr result (λ stop. IsSourceFault stop → ⊥) }
     ensures sink { result ≡ Err Stop.SinkFault → Rose (K.faults out.old) (K.faults out.new) }
     ensures printed { IfErr result IsTellable }
-    ensures went { IsTrue settings.aloud → Ends (point session.old (K.contents out.old))
-        (point session.new (K.contents out.new)) result }
+    ensures went { IsTrue settings.aloud → (F : List ℕ → Told) → Ends F
+        (task.source_end ∷ required_then now.now.required []) (point session.old (K.contents out.old))
+        [] (point session.new (K.contents out.new)) result }
 {
     if session.is_in_section() {
         return Err(refused(at_byte(now.file, now.length), What::SectionOpen));
@@ -288,7 +307,7 @@ fn end<K: Sink>(
 }
 
 /// Takes a command that requires no file, and reports it.
-#[tactic(auto, using(crate::proofs::TraceLemmas::told_ends, crate::proofs::TraceLemmas::only_names, crate::proofs::TraceLemmas::no_step, crate::proofs::TraceLemmas::halts_there, crate::proofs::TraceLemmas::halts_by_sink))]
+#[tactic(auto, using(crate::proofs::TraceLemmas::refused_there, crate::proofs::TraceLemmas::refused_same, crate::proofs::TraceLemmas::halts_by_sink))]
 fn take<K: Sink>(
     settings: Settings,
     session: &mut Session,
@@ -300,8 +319,9 @@ fn take<K: Sink>(
     ensures source { IfErr result (λ stop. IsSourceFault stop → ⊥) }
     ensures sink { result ≡ Err Stop.SinkFault → Rose (K.faults out.old) (K.faults out.new) }
     ensures printed { IfErr result IsTellable }
-    ensures went { IsTrue settings.aloud → Ends (point session.old (K.contents out.old))
-        (point session.new (K.contents out.new)) result }
+    ensures went { IsTrue settings.aloud → (F : List ℕ → Told) → Ends F
+        (task.command (view command.now) ∷ []) (point session.old (K.contents out.old))
+        [] (point session.new (K.contents out.new)) result }
 {
     let from = session.theory().env().len();
     match session.take(command, &settings.limits) {
@@ -326,7 +346,7 @@ fn note_declared(session: &mut Session, from: u32, command: &Command) -> Result<
 }
 
 /// Takes a command whose required file was compiled, and reports it.
-#[tactic(auto, using(crate::proofs::TraceLemmas::told_ends, crate::proofs::TraceLemmas::nothing_done, crate::proofs::TraceLemmas::no_step, crate::proofs::TraceLemmas::halts_there, crate::proofs::TraceLemmas::halts_by_sink))]
+#[tactic(auto, using(crate::proofs::TraceLemmas::refused_same, crate::proofs::TraceLemmas::halts_by_sink))]
 fn take_required<K: Sink>(
     settings: Settings,
     session: &mut Session,
@@ -338,8 +358,9 @@ fn take_required<K: Sink>(
     ensures source { IfErr result (λ stop. IsSourceFault stop → ⊥) }
     ensures sink { result ≡ Err Stop.SinkFault → Rose (K.faults out.old) (K.faults out.new) }
     ensures printed { IfErr result IsTellable }
-    ensures went { IsTrue settings.aloud → Ends (point session.old (K.contents out.old))
-        (point session.new (K.contents out.new)) result }
+    ensures went { IsTrue settings.aloud → (F : List ℕ → Told) → Ends F
+        (task.required name ∷ []) (point session.old (K.contents out.old))
+        [] (point session.new (K.contents out.new)) result }
 {
     match session.take_require(name) {
         Ok(event) => report(settings, session, &event, out, emitters),
@@ -362,7 +383,10 @@ fn require<D: Depot>(
     ensures sink { IfErr result (λ stop. stop ≡ Stop.SinkFault → ⊥) }
     ensures printed { IfErr result IsTellable }
     ensures files { FilesStay (D.file depot.old) (D.file depot.new) }
-    ensures keeps { OnlyNames (state session.old) (state session.new) }
+    ensures opened { IfOk result (λ opened. IfSome opened
+        (IsRequired (D.file depot.old) (source_name (state session.old).back.names name.name.0)
+        (state session.new).back.names name)) }
+    ensures only_names { OnlyNames (state session.old) (state session.new) }
     ensures lines { session.new.files.lines ≡ session.old.files.lines }
 {
     if session.is_in_section() {

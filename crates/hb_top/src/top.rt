@@ -1,5 +1,5 @@
 //! The top call.
-ghost use Rattle.std.specs.Prelude.{◌≡◌, ◌≤◌, ℕ, List, IfErr, Err, IsTrue, map};
+ghost use Rattle.std.specs.Prelude.{◌≡◌, ◌≤◌, ◌∷◌, [], ℕ, List, IfErr, Err, IsTrue, map, string_bytes};
 ghost use Rattle.hb_calculus.specs.Typing.{WellFormed};
 ghost use Rattle.hb_io.specs.Causes.{Rose};
 ghost use Rattle.hb_session.specs.Entries.{decls_of};
@@ -8,9 +8,10 @@ ghost use Rattle.hb_top.specs.Joins.{HaveJoins};
 ghost use Rattle.hb_top.specs.Report.{IsOutcome, IsWork};
 ghost use Rattle.hb_top.specs.Stops.{FilesStay, IsSourceFault, IsTellable};
 ghost use Rattle.hb_top.specs.Stays.{OthersStay, SourcesStay};
+ghost use Rattle.hb_top.specs.Agenda.{agenda_of, core_text, files_then};
 ghost use Rattle.hb_top.specs.Trace.{point};
 ghost use Rattle.hb_top.specs.Reported.{beginning, certifying, compiling, is_aloud, asked_by, saving, HasReported, ReportsFrom, Works, WorksOut};
-ghost use Rattle.hb_words.specs.Jobs.{first_word, word_of, IsAllowed};
+ghost use Rattle.hb_words.specs.Jobs.{word_of, IsAllowed};
 
 use crate::certificate::{save_certificate, verify_certificate};
 use crate::compile::{accepted, compile_files};
@@ -58,7 +59,7 @@ pub fn run<D: Depot, K: Sink>(
 
     // The report of a run that compiles commands: the lines of those that were accepted, one after another, which made
     // the session what it is, and how it ended.
-    ensures report { ReportsFrom (first_word (map (λ word. word.now) words.now))
+    ensures report { ReportsFrom (map (λ word. word.now) words.now) (D.file depot.old)
         (beginning (K.contents out.old)) (state session.new) (K.contents out.new) result }
 
     // At most one file has other bytes afterwards, and no source.
@@ -75,7 +76,7 @@ pub fn run<D: Depot, K: Sink>(
 }
 
 /// Does what the words ask for.
-#[tactic(auto, using(crate::proofs::ReportLemmas::usage_report, crate::proofs::ReportLemmas::memory_report, crate::proofs::RunLemmas::usage_outcome, crate::proofs::RunLemmas::usage_reads_nothing, crate::proofs::RunLemmas::no_file_changes, crate::proofs::RunLemmas::no_source_changes))]
+#[tactic(auto, using(crate::proofs::ReportLemmas::usage_report, crate::proofs::ReportLemmas::job_report, crate::proofs::RunLemmas::usage_outcome, crate::proofs::RunLemmas::usage_reads_nothing, crate::proofs::RunLemmas::no_file_changes, crate::proofs::RunLemmas::no_source_changes))]
 fn do_words<D: Depot, K: Sink>(
     alloc: Global,
     words: &[&str],
@@ -90,7 +91,7 @@ fn do_words<D: Depot, K: Sink>(
     ensures told { IsOutcome (K.contents out.old) (K.contents out.new) result }
     ensures files { (name : List ℕ) × OthersStay name (D.file depot.old) (D.file depot.new) }
     ensures sources { SourcesStay (D.file depot.old) (D.file depot.new) }
-    ensures report { ReportsFrom (first_word (map (λ word. word.now) words.now))
+    ensures report { ReportsFrom (map (λ word. word.now) words.now) (D.file depot.old)
         (point session.old (K.contents out.old)) (state session.new) (K.contents out.new) result }
 {
     match read_words(alloc, words) {
@@ -117,8 +118,9 @@ fn do_job<D: Depot, K: Sink>(
     ensures told { IsOutcome (K.contents out.old) (K.contents out.new) result }
     ensures files { (name : List ℕ) × OthersStay name (D.file depot.old) (D.file depot.new) }
     ensures sources { SourcesStay (D.file depot.old) (D.file depot.new) }
-    ensures report { HasReported (asked_by (word_of job.now))
-        (point session.old (K.contents out.old)) (state session.new) (K.contents out.new) result }
+    ensures report { HasReported (asked_by (word_of job.now)) (D.file depot.old)
+        (agenda_of job.now) (point session.old (K.contents out.old)) (state session.new)
+        (K.contents out.new) result }
 {
     let status = work_and_tell(alloc, job, depot, out, emitters, session);
     finish_all(alloc, status, out, emitters)
@@ -142,8 +144,9 @@ fn work_and_tell<D: Depot, K: Sink>(
     ensures told { IsWork (K.contents out.new) result }
     ensures files { (name : List ℕ) × OthersStay name (D.file depot.old) (D.file depot.new) }
     ensures sources { SourcesStay (D.file depot.old) (D.file depot.new) }
-    ensures report { HasReported (asked_by (word_of job.now))
-        (point session.old (K.contents out.old)) (state session.new) (K.contents out.new) result }
+    ensures report { HasReported (asked_by (word_of job.now)) (D.file depot.old)
+        (agenda_of job.now) (point session.old (K.contents out.old)) (state session.new)
+        (K.contents out.new) result }
 {
     let settings = settings_of(alloc, job);
     match job {
@@ -209,7 +212,8 @@ fn work<D: Depot, K: Sink>(
     ensures files { (name : List ℕ) × OthersStay name (D.file depot.old) (D.file depot.new) }
     ensures sources { SourcesStay (D.file depot.old) (D.file depot.new) }
     ensures report { IsTrue settings.aloud → Works (asked_by (word_of job.now))
-        (point session.old (K.contents out.old)) (point session.new (K.contents out.new)) result }
+        (D.file depot.old) (agenda_of job.now) (point session.old (K.contents out.old))
+        (point session.new (K.contents out.new)) result }
 {
     match job {
         Job::Compile { files, .. } => {
@@ -257,8 +261,9 @@ fn save_library<D: Depot, K: Sink>(
     ensures sink { result ≡ Err Stop.SinkFault → Rose (K.faults out.old) (K.faults out.new) }
     ensures printed { IfErr result IsTellable }
     ensures files { OthersStay lib.now (D.file depot.old) (D.file depot.new) }
-    ensures report { IsTrue settings.aloud → WorksOut saving
-        (point session.old (K.contents out.old)) (point session.new (K.contents out.new)) result }
+    ensures report { IsTrue settings.aloud → WorksOut saving (D.file depot.old)
+        (files_then (map string_bytes files.now) []) (point session.old (K.contents out.old))
+        (point session.new (K.contents out.new)) result }
 {
     match compile_files(settings, session, depot, out, emitters, files) {
         Ok(()) => {}
@@ -287,8 +292,9 @@ fn certify_files<D: Depot, K: Sink>(
     ensures sink { result ≡ Err Stop.SinkFault → Rose (K.faults out.old) (K.faults out.new) }
     ensures printed { IfErr result IsTellable }
     ensures files { OthersStay cert.now (D.file depot.old) (D.file depot.new) }
-    ensures report { IsTrue settings.aloud → WorksOut certifying
-        (point session.old (K.contents out.old)) (point session.new (K.contents out.new)) result }
+    ensures report { IsTrue settings.aloud → WorksOut certifying (D.file depot.old)
+        (files_then (map string_bytes files.now) []) (point session.old (K.contents out.old))
+        (point session.new (K.contents out.new)) result }
 {
     match compile_files(settings, session, depot, out, emitters, files) {
         Ok(()) => {}
@@ -314,8 +320,9 @@ fn add_core<D: Depot, K: Sink>(
     ensures sink { result ≡ Err Stop.SinkFault → Rose (K.faults out.old) (K.faults out.new) }
     ensures printed { IfErr result IsTellable }
     ensures files { FilesStay (D.file depot.old) (D.file depot.new) }
-    ensures report { IsTrue settings.aloud → WorksOut compiling
-        (point session.old (K.contents out.old)) (point session.new (K.contents out.new)) result }
+    ensures report { IsTrue settings.aloud → WorksOut compiling (D.file depot.old)
+        (core_text file.now ∷ []) (point session.old (K.contents out.old))
+        (point session.new (K.contents out.new)) result }
 {
     match core(settings, session, depot, out, emitters, file) {
         Ok(()) => {}

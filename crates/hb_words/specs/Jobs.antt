@@ -1,5 +1,5 @@
 -- What a job may be: the rules on numbers, endings and counts of files.
-use Rattle.std.specs.Prelude.{◌≡◌, ℕ, ◌≤◌, ◌<◌, ◌^◌, Bool, true, false, not, ◌&&◌, nat_eq, nat_le, List, [], ◌∷◌, length, map, Option, None, Some, IfSome, IsTrue, codes, string_bytes}
+use Rattle.std.specs.Prelude.{ℕ, ◌≤◌, Bool, false, not, ◌&&◌, nat_eq, nat_le, List, [], ◌∷◌, length, map, Option, None, Some, IfSome, IsTrue, codes, string_bytes}
 use Rattle.std.specs.List.{list_all, ends_with}
 use Rattle.hb_words.specs.declared.job.Job.{Job}
 use Rattle.hb_words.specs.declared.job.Job.TheVariants.{Compile, Save, Core, Refactor, Sample, Show, Certify, Verify}

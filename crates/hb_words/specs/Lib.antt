@@ -1,3 +1,5 @@
+pub mod Asked
+pub mod Commands
 pub mod Jobs
--- what the crate's own functions promise each other
+pub mod Numbers
 pub mod Rows

@@ -1,7 +1,11 @@
 //! The job of each row, of what its command found.
-ghost use Rattle.std.specs.Prelude.{◌≡◌, ◌≤◌, IfOk, IsTrue, codes, string_bytes};
-ghost use Rattle.hb_words.specs.Jobs.{word_of, IsAllowed, IsSteps};
-ghost use Rattle.hb_words.specs.Rows.{row_word};
+ghost use Rattle.std.specs.Prelude.{◌≡◌, ◌≤◌, IfOk, IsTrue, Some, codes, map, string_bytes};
+ghost use Rattle.std.specs.Option.{option_map};
+ghost use Rattle.clap.specs.Words.{first_of, found_of, rows_of};
+ghost use Rattle.hb_words.specs.Asked.{all_values, one_value, HasValues, IsNumberOf};
+ghost use Rattle.hb_words.specs.Jobs.{IsAllowed, IsSteps};
+ghost use Rattle.hb_words.specs.Numbers.{IsNumber};
+ghost use Rattle.hb_words.specs.declared.row.Row.TheVariants as rows;
 
 use crate::files::{are_clients, are_files, is_certificate, is_library};
 use crate::job::Job;
@@ -36,7 +40,7 @@ impl From<AllocError> for WordsFault {
 /// The job of a row.
 pub(crate) fn job_of(alloc: Global, row: Row, matches: &ArgMatches<'_>) -> Result<Job, WordsFault>
     ensures allowed { IfOk result IsAllowed }
-    ensures row { IfOk result (λ job. word_of job ≡ row_word row) }
+    ensures values { IfOk result (HasValues row (rows_of (found_of matches.now))) }
 {
     match row {
         Row::Compile => compile_job(alloc, matches),
@@ -52,7 +56,7 @@ pub(crate) fn job_of(alloc: Global, row: Row, matches: &ArgMatches<'_>) -> Resul
 
 fn compile_job(alloc: Global, matches: &ArgMatches<'_>) -> Result<Job, WordsFault>
     ensures allowed { IfOk result IsAllowed }
-    ensures row { IfOk result (λ job. word_of job ≡ codes "compile") }
+    ensures values { IfOk result (HasValues rows.Compile (rows_of (found_of matches.now))) }
 {
     let steps = steps_of(matches)?;
     let files = values_of(alloc, matches, "FILE")?;
@@ -67,7 +71,7 @@ fn compile_job(alloc: Global, matches: &ArgMatches<'_>) -> Result<Job, WordsFaul
 
 fn save_job(alloc: Global, matches: &ArgMatches<'_>) -> Result<Job, WordsFault>
     ensures allowed { IfOk result IsAllowed }
-    ensures row { IfOk result (λ job. word_of job ≡ codes "save") }
+    ensures values { IfOk result (HasValues rows.Save (rows_of (found_of matches.now))) }
 {
     let steps = steps_of(matches)?;
     let lib = value_of(matches, "LIB")?;
@@ -83,7 +87,7 @@ fn save_job(alloc: Global, matches: &ArgMatches<'_>) -> Result<Job, WordsFault>
 
 fn core_job(alloc: Global, matches: &ArgMatches<'_>) -> Result<Job, WordsFault>
     ensures allowed { IfOk result IsAllowed }
-    ensures row { IfOk result (λ job. word_of job ≡ codes "core") }
+    ensures values { IfOk result (HasValues rows.Core (rows_of (found_of matches.now))) }
 {
     let steps = steps_of(matches)?;
     let file = value_of(matches, "FILE")?;
@@ -96,7 +100,7 @@ fn core_job(alloc: Global, matches: &ArgMatches<'_>) -> Result<Job, WordsFault>
 
 fn refactor_job(alloc: Global, matches: &ArgMatches<'_>) -> Result<Job, WordsFault>
     ensures allowed { IfOk result IsAllowed }
-    ensures row { IfOk result (λ job. word_of job ≡ codes "refactor") }
+    ensures values { IfOk result (HasValues rows.Refactor (rows_of (found_of matches.now))) }
 {
     let steps = steps_of(matches)?;
     let old = value_of(matches, "OLD")?;
@@ -113,7 +117,7 @@ fn refactor_job(alloc: Global, matches: &ArgMatches<'_>) -> Result<Job, WordsFau
 
 fn sample_job(matches: &ArgMatches<'_>) -> Result<Job, WordsFault>
     ensures allowed { IfOk result IsAllowed }
-    ensures row { IfOk result (λ job. word_of job ≡ codes "sample") }
+    ensures values { IfOk result (HasValues rows.Sample (rows_of (found_of matches.now))) }
 {
     let number = number(value_of(matches, "NUMBER")?, u64::MAX)?;
     let size = size_of(value_of(matches, "SIZE")?)?;
@@ -122,7 +126,7 @@ fn sample_job(matches: &ArgMatches<'_>) -> Result<Job, WordsFault>
 
 fn show_job(alloc: Global, matches: &ArgMatches<'_>) -> Result<Job, WordsFault>
     ensures allowed { IfOk result IsAllowed }
-    ensures row { IfOk result (λ job. word_of job ≡ codes "show") }
+    ensures values { IfOk result (HasValues rows.Show (rows_of (found_of matches.now))) }
 {
     let file = value_of(matches, "FILE")?;
     wanted(!is_library(file))?;
@@ -133,7 +137,7 @@ fn show_job(alloc: Global, matches: &ArgMatches<'_>) -> Result<Job, WordsFault>
 
 fn certify_job(alloc: Global, matches: &ArgMatches<'_>) -> Result<Job, WordsFault>
     ensures allowed { IfOk result IsAllowed }
-    ensures row { IfOk result (λ job. word_of job ≡ codes "certify") }
+    ensures values { IfOk result (HasValues rows.Certify (rows_of (found_of matches.now))) }
 {
     let steps = steps_of(matches)?;
     let cert = value_of(matches, "CERT")?;
@@ -149,7 +153,7 @@ fn certify_job(alloc: Global, matches: &ArgMatches<'_>) -> Result<Job, WordsFaul
 
 fn verify_job(alloc: Global, matches: &ArgMatches<'_>) -> Result<Job, WordsFault>
     ensures allowed { IfOk result IsAllowed }
-    ensures row { IfOk result (λ job. word_of job ≡ codes "verify") }
+    ensures values { IfOk result (HasValues rows.Verify (rows_of (found_of matches.now))) }
 {
     let cert = value_of(matches, "CERT")?;
     wanted(is_certificate(cert))?;
@@ -167,7 +171,8 @@ fn wanted(met: bool) -> Result<(), WordsFault>
 
 /// The number of steps, where the option is there.
 fn steps_of(matches: &ArgMatches<'_>) -> Result<Option<u64>, WordsFault>
-    ensures { IfOk result IsSteps }
+    ensures allowed { IfOk result IsSteps }
+    ensures written { IfOk result (IsNumberOf (first_of (codes "steps") (rows_of (found_of matches.now)))) }
 {
     match matches.get_str("steps") {
         None => Ok(None),
@@ -181,7 +186,8 @@ fn steps_of(matches: &ArgMatches<'_>) -> Result<Option<u64>, WordsFault>
 
 /// The size of a sample.
 fn size_of(text: &str) -> Result<u16, WordsFault>
-    ensures { IfOk result (λ n. (2 ≤ n) × (n ≤ 200)) }
+    ensures allowed { IfOk result (λ n. (2 ≤ n) × (n ≤ 200)) }
+    ensures written { IfOk result (IsNumber text.now) }
 {
     let size = number(text, MOST_SIZE)?;
     wanted(size >= LEAST_SIZE)?;
@@ -189,12 +195,20 @@ fn size_of(text: &str) -> Result<u16, WordsFault>
 }
 
 /// The one value of an argument that has to be there.
-fn value_of<'a>(matches: &ArgMatches<'a>, id: &str) -> Result<&'a str, WordsFault> {
-    matches.get_str(id).ok_or(WordsFault::NoRow)
+fn value_of<'a>(matches: &ArgMatches<'a>, id: &str) -> Result<&'a str, WordsFault>
+    ensures { IfOk result (λ text. one_value id.now (rows_of (found_of matches.now)) text.now) }
+{
+    match matches.get_str(id) {
+        Some(text) => Ok(text),
+        None => Err(WordsFault::NoRow),
+    }
 }
 
 /// All values of an argument, as texts of their own.
-fn values_of(alloc: Global, matches: &ArgMatches<'_>, id: &str) -> Result<Vec<String>, AllocError> {
+fn values_of(alloc: Global, matches: &ArgMatches<'_>, id: &str) -> Result<Vec<String>, AllocError>
+    ensures { IfOk result (λ texts.
+        map string_bytes texts.items ≡ all_values id.now (rows_of (found_of matches.now))) }
+{
     match matches.get_strs(id) {
         Some(values) => owned(alloc, values),
         None => Ok(Vec::new(alloc)),
@@ -206,7 +220,10 @@ fn option_of(
     alloc: Global,
     matches: &ArgMatches<'_>,
     id: &str,
-) -> Result<Option<String>, WordsFault> {
+) -> Result<Option<String>, WordsFault>
+    ensures { IfOk result (λ text.
+        option_map string_bytes text ≡ first_of id.now (rows_of (found_of matches.now))) }
+{
     match matches.get_str(id) {
         None => Ok(None),
         Some(text) => Ok(Some(String::from_str(alloc, text)?)),
@@ -214,7 +231,9 @@ fn option_of(
 }
 
 /// The texts, as values of their own.
-fn owned(alloc: Global, texts: &[&str]) -> Result<Vec<String>, AllocError> {
+fn owned(alloc: Global, texts: &[&str]) -> Result<Vec<String>, AllocError>
+    ensures { IfOk result (λ all. map string_bytes all.items ≡ map (λ t. t.now) texts.now) }
+{
     let mut all = Vec::new(alloc);
     for text in texts {
         all.push(String::from_str(alloc, text)?)?;

@@ -1,6 +1,8 @@
 //! From words to a job.
-ghost use Rattle.std.specs.Prelude.{◌≡◌, IfOk, IfSome, Some, map};
-ghost use Rattle.hb_words.specs.Jobs.{first_word, word_of, IsAllowed};
+ghost use Rattle.std.specs.Prelude.{◌≡◌, [], IfOk, IfSome, OnOk, map};
+ghost use Rattle.clap.specs.Words.{fault_of, found_of, matches_of as values_in, rows_of};
+ghost use Rattle.hb_words.specs.Asked.{AsksFor};
+ghost use Rattle.hb_words.specs.Commands.{row_app};
 
 use crate::commands::command_of;
 use crate::job::Job;
@@ -13,9 +15,7 @@ use std::alloc::{AllocError, Global};
 
 /// The job that the words ask for. `None` where they are in no row of the usage text.
 pub fn read_words<'a>(alloc: Global, words: &'a [&'a str]) -> Result<Option<Job>, AllocError>
-    ensures allowed { IfOk result (λ job. IfSome job IsAllowed) }
-    ensures row { IfOk result (λ job. IfSome job
-        (λ j. first_word (map (λ word. word.now) words.now) ≡ Some (word_of j))) }
+    ensures asked { IfOk result (λ job. IfSome job (AsksFor (map (λ word. word.now) words.now))) }
 {
     match read_row(alloc, words) {
         Ok(job) => Ok(Some(job)),
@@ -26,8 +26,7 @@ pub fn read_words<'a>(alloc: Global, words: &'a [&'a str]) -> Result<Option<Job>
 
 /// The job of the row that the first word chooses.
 fn read_row<'a>(alloc: Global, words: &'a [&'a str]) -> Result<Job, WordsFault>
-    ensures allowed { IfOk result IsAllowed }
-    ensures row { IfOk result (λ j. first_word (map (λ word. word.now) words.now) ≡ Some (word_of j)) }
+    ensures asked { IfOk result (AsksFor (map (λ word. word.now) words.now)) }
 {
     let first = words.first().ok_or(WordsFault::NoRow)?;
     let row = Row::of(first).ok_or(WordsFault::NoRow)?;
@@ -40,7 +39,11 @@ fn matches_of<'a>(
     alloc: Global,
     row: Row,
     words: &'a [&'a str],
-) -> Result<ArgMatches<'a>, WordsFault> {
+) -> Result<ArgMatches<'a>, WordsFault>
+    ensures fits { OnOk result (fault_of (row_app row) (map (λ word. word.now) words.now) ≡ []) }
+    ensures found { IfOk result (λ m.
+        rows_of (found_of m) ≡ values_in (row_app row) (map (λ word. word.now) words.now)) }
+{
     let command = command_of(alloc, row)?;
     match command.try_get_matches_from(words) {
         Ok(matches) => Ok(matches),
